@@ -1,6 +1,6 @@
 -- What two lists are beside each other once they are walked, and what their nodes are then.
 use Rattle.std.proofs.Common.{◌≡◌, ℕ, zero, suc, ◌+◌, ◌<◌, ◌≤◌, Bool, true, false, ◌||◌, List, [], ◌∷◌, ◌++◌, length, get_or, take, map, refl, sym, ap, ◌∙◌, subst, arith, Option, Some, None}
-use Rattle.std.specs.Prelude.{slice_get, nat_eq, position, option_and_then}
+use Rattle.std.specs.Prelude.{slice_get, nat_eq, position, option_and_then, if◌then◌else◌}
 use Rattle.std.specs.List.{zip}
 use Rattle.std.specs.Option.{option_map_or}
 use Rattle.std.proofs.lemmas.Bool.Decides.{Decides-eqb}
@@ -8,16 +8,17 @@ use Rattle.std.proofs.lemmas.List.{length-map, length-take-le, map-append, take_
 use Rattle.std.proofs.lemmas.Option.{slice_get-get_or}
 use Rattle.rx_elem.specs.Elements.{Element}
 use Rattle.rx_elem.specs.Identity.{identities, identified, is_same_child, is_reused, old_places, moves, moves_after}
-use Rattle.rx_elem.specs.Trees.{Mark, Node, node, Forest, forest, element_of, elements_in, mark_of, children_of, fallback_of}
+use Rattle.rx_elem.specs.Trees.{Mark, Node, node, Forest, forest, element_of, elements_in, mark_of, children_of, fallback_of, is_host}
 use Rattle.rx_elem.specs.Trees as trees
 use Rattle.rx_elem.specs.Compare.{pasts, node_at}
 use Rattle.rx_keys.proofs.Distinct.{identified_length, places_apart}
 use Rattle.rx_pruned.specs.Pruned.{GoesOn, displaced_below, Pruned, whole, cut, inside, PrunedIn}
+use Rattle.rx_pruned.specs.Pruned as pruned
 use Rattle.rx_compare.specs.Matched.{IsMatched}
 use Rattle.rx_keys.specs.declared.matching.Matching.{Matching}
 use Rattle.rx_beside.specs.declared.lists.PrunedNodes.{PrunedNodes}
 use Rattle.rx_beside.specs.Parts.{old_part, new_part, old_slot, new_slot}
-use Rattle.rx_beside.specs.Slots.{IsSlot, kept, changed, replaced, AreLists, left_out, as_they_are, without_some}
+use Rattle.rx_beside.specs.Slots.{IsSlot, kept, changed, replaced, AreLists, IsLeft, left_out, as_they_are, without_some, in_place}
 use Rattle.rx_beside.proofs.Walking.{pasts_by, pasts_are, Walked, walked_more}
 
 -- Where new children were
@@ -90,6 +91,7 @@ pub lists_pruned : (d : Bool) (e f : Element) (m w : Mark) (os ns ps qs : Forest
 lists_pruned d e f m w os _ _ _ g (left_out n) = cut g n
 lists_pruned d e f m w os ns _ _ g as_they_are = whole
 lists_pruned d e f m w os ns ps qs g (without_some k h) = inside g k h
+lists_pruned d e f m w os ns ps qs g (in_place h k l) = pruned.in_place g h k l
 
 pub pair_pruned : (d : Bool) (o t p q : Node) (f : Element) (w : Mark) (os ns ps qs : Forest) → GoesOn (mark_of o) w → AreLists (displaced_below d w) os ns ps qs
     → os ≡ children_of o → fallback_of o ≡ trees.none → t ≡ node f w ns trees.none → p ≡ node (element_of o) (mark_of o) ps trees.none → q ≡ node f w qs trees.none
@@ -98,9 +100,17 @@ pair_pruned d (node e m cs fs) t p q f w os ns ps qs g h same gone te pe qe =
     rw (te, pe, qe, gone) (lists_pruned d e f m w cs ns ps qs g (subst (λ x. AreLists (displaced_below d w) x ns ps qs) same h))
 
 -- a node that stays, with its list left out
-pub kept_pruned : (d : Bool) (o t p q : Node) → t ≡ o → p ≡ q → q ≡ node (element_of o) (mark_of o) trees.none trees.none
-    → GoesOn (mark_of o) (mark_of o) → displaced_below d (mark_of o) ≡ false → fallback_of o ≡ trees.none → Pruned d o t p q
-kept_pruned d (node e m ns fs) t p q te pe qe g h gone = rw (te, pe, qe, gone) (cut g h)
+pub bare_pruned : (d : Bool) (o p q : Node) → p ≡ q → q ≡ node (element_of o) (mark_of o) trees.none trees.none
+    → GoesOn (mark_of o) (mark_of o) → displaced_below d (mark_of o) ≡ false → fallback_of o ≡ trees.none → Pruned d o o p q
+bare_pruned d (node e m ns fs) p q pe qe g h gone = rw (pe, qe, gone) (cut g h)
+
+-- below a node that did not move nothing did
+pub none_below : (d : Bool) (m : Mark) → d ≡ false → displaced_below d m ≡ false
+none_below d m e = rw e (by_host (is_host m))
+  where
+    by_host : (b : Bool) → (if b then false else false) ≡ false
+    by_host true = refl
+    by_host false = refl
 
 -- both lists are left out
 pub out_by : (d : Bool) (os ns ps qs : Forest) → d ≡ false → ns ≡ os → ps ≡ trees.none → qs ≡ trees.none → AreLists d os ns ps qs
@@ -163,3 +173,24 @@ pub slot_by : (d : Bool) (o : Option Node) (a n : Node) (c : Option PrunedNodes)
     → IsSlot d o (Some n) (old_slot c) (new_slot (Some n) c)
 slot_by d o a n None e h = kept
 slot_by d o a n (Some p) e h = rw e (changed h)
+
+-- what can be left out itself is the old node, without its list on both sides in place of that
+bare_same : (d : Bool) (o x : Option Node) (n p q : Node) → x ≡ Some n → IsLeft d o x
+    → (GoesOn (mark_of n) (mark_of n) → displaced_below d (mark_of n) ≡ false → fallback_of n ≡ trees.none → Pruned d n n p q) → (o ≡ Some n) × Pruned d n n p q
+bare_same d o x n p q e l bare =
+    let same : l.node ≡ n = (let z : Some l.node ≡ Some n = sym l.is ∙ e in cc) in
+    let goes = subst (λ y. GoesOn (mark_of y) (mark_of y)) same l.goes in
+    let alone = subst (λ y. fallback_of y ≡ trees.none) same l.alone in
+    (l.was ∙ ap Some same, bare goes (none_below d (mark_of n) l.still) alone)
+
+-- the same of what stands at a place
+pub bare_there : (d : Bool) (o x : Option Node) (n p q : Node) → x ≡ Some n → IsLeft d o x
+    → (GoesOn (mark_of n) (mark_of n) → displaced_below d (mark_of n) ≡ false → fallback_of n ≡ trees.none → Pruned d n n p q) → IsSlot d o x (Some p) (Some q)
+bare_there d o x n p q e l bare = let (was, is) = bare_same d o x n p q e l bare in rw (was, e) (changed is)
+
+-- the same of a node
+pub bare_left : (d : Bool) (o n p q : Node) → IsLeft d (Some o) (Some n)
+    → (GoesOn (mark_of n) (mark_of n) → displaced_below d (mark_of n) ≡ false → fallback_of n ≡ trees.none → Pruned d n n p q) → Pruned d o n p q
+bare_left d o n p q l bare =
+    let (was, is) = bare_same d (Some o) (Some n) n p q refl l bare in
+    let same : n ≡ o = (let z : Some o ≡ Some n = was in cc) in subst (λ y. Pruned d y n p q) same is

@@ -5,14 +5,13 @@ use Rattle.std.specs.List.{zip}
 use Rattle.std.specs.Option.{option_flatten, option_map_or}
 use Rattle.std.proofs.lemmas.Bool.Decides.{Decides-eqb}
 use Rattle.std.proofs.lemmas.List.Folds.{list_any-append}
-use Rattle.rx_elem.specs.Elements.{Element}
 use Rattle.rx_elem.specs.Elements as elements
 use Rattle.rx_elem.specs.Identity.{is_reused}
-use Rattle.rx_elem.specs.Trees.{Mark, Node, node, Forest, vacant, child, forest, element_of, elements_in}
+use Rattle.rx_elem.specs.Trees.{Node, node, Forest, vacant, child, forest, element_of, elements_in}
 use Rattle.rx_elem.specs.Trees as trees
 use Rattle.rx_elem.specs.Compare.{Past, node_at}
 use Rattle.rx_node.proofs.Listing.{places-forest}
-use Rattle.rx_pruned.specs.Pruned.{was, Pruned, whole, cut, inside, PrunedIn, no_more, gap, same, pair}
+use Rattle.rx_pruned.specs.Pruned.{was, Pruned, whole, cut, inside, in_place, PrunedIn, no_more, gap, same, pair, left}
 use Rattle.rx_beside.specs.Slots.{IsSlot, kept, changed, replaced}
 
 -- Pasts by places
@@ -74,14 +73,20 @@ both_longer d _ _ _ _ ps2 ns2 qs2 ms2 no_more b = b
 both_longer d _ _ _ _ ps2 ns2 qs2 ms2 (gap {ps = ps} {qs = qs} {ns = ns} {ms = ms} a) b = gap (both_longer d ps ns qs ms ps2 ns2 qs2 ms2 a b)
 both_longer d _ _ _ _ ps2 ns2 qs2 ms2 (same {ps = ps} {qs = qs} {ns = ns} {ms = ms} a) b = same (both_longer d ps ns qs ms ps2 ns2 qs2 ms2 a b)
 both_longer d _ _ _ _ ps2 ns2 qs2 ms2 (pair {ps = ps} {qs = qs} {ns = ns} {ms = ms} p a) b = pair p (both_longer d ps ns qs ms ps2 ns2 qs2 ms2 a b)
+both_longer d _ _ _ _ ps2 ns2 qs2 ms2 (left {ps = ps} {qs = qs} {ns = ns} {ms = ms} e a) b = left e (both_longer d ps ns qs ms ps2 ns2 qs2 ms2 a b)
 
-pub more : (d : Bool) (ps qs : List Past) (xs ys : List (Option Node)) (p q : Past) (x y : Option Node) → PrunedIn d ps (forest xs) qs (forest ys)
+-- lists go on with what these are beside each other
+pub all_more : (d : Bool) (ps qs : List Past) (xs ys : List (Option Node)) (ps2 qs2 : List Past) (xs2 ys2 : List (Option Node)) → PrunedIn d ps (forest xs) qs (forest ys)
+    → PrunedIn d ps2 (forest xs2) qs2 (forest ys2) → PrunedIn d (ps ++ ps2) (forest (xs ++ xs2)) (qs ++ qs2) (forest (ys ++ ys2))
+all_more d ps qs xs ys ps2 qs2 xs2 ys2 a b =
+    subst (λ ns. PrunedIn d (ps ++ ps2) ns (qs ++ qs2) (forest (ys ++ ys2))) (sym (forest_longer xs xs2))
+    (subst (λ ms. PrunedIn d (ps ++ ps2) (then_also (forest xs) (forest xs2)) (qs ++ qs2) ms) (sym (forest_longer ys ys2))
+    (both_longer d ps (forest xs) qs (forest ys) ps2 (forest xs2) qs2 (forest ys2) a b))
+
+more : (d : Bool) (ps qs : List Past) (xs ys : List (Option Node)) (p q : Past) (x y : Option Node) → PrunedIn d ps (forest xs) qs (forest ys)
     → PrunedIn d (p ∷ []) (forest (x ∷ [])) (q ∷ []) (forest (y ∷ []))
     → PrunedIn d (ps ++ p ∷ []) (forest (xs ++ x ∷ [])) (qs ++ q ∷ []) (forest (ys ++ y ∷ []))
-more d ps qs xs ys p q x y a b =
-    subst (λ ns. PrunedIn d (ps ++ p ∷ []) ns (qs ++ q ∷ []) (forest (ys ++ y ∷ []))) (sym (forest_longer xs (x ∷ [])))
-    (subst (λ ms. PrunedIn d (ps ++ p ∷ []) (then_also (forest xs) (forest (x ∷ []))) (qs ++ q ∷ []) ms) (sym (forest_longer ys (y ∷ [])))
-    (both_longer d ps (forest xs) qs (forest ys) (p ∷ []) (forest (x ∷ [])) (q ∷ []) (forest (y ∷ [])) a b))
+more d ps qs xs ys p q x y a b = all_more d ps qs xs ys (p ∷ []) (q ∷ []) (x ∷ []) (y ∷ []) a b
 
 stays : (d : Bool) (p q : Past) (x : Option Node) → p ≡ q → PrunedIn d (p ∷ []) (forest (x ∷ [])) (q ∷ []) (forest (x ∷ []))
 stays d p q None e = subst (λ q. PrunedIn d (p ∷ []) (vacant trees.none) (q ∷ []) (vacant trees.none)) e (gap no_more)
@@ -116,6 +121,14 @@ pub same_element : (d : Bool) (o n p q : Node) → Pruned d o n p q → element_
 same_element d o n _ _ whole = refl
 same_element d _ _ _ _ (cut g e) = refl
 same_element d _ _ _ _ (inside g k h) = refl
+same_element d _ _ _ _ (in_place g h k l) = refl
+
+-- the same of the new node
+pub same_new_element : (d : Bool) (o n p q : Node) → Pruned d o n p q → element_of q ≡ element_of n
+same_new_element d o n _ _ whole = refl
+same_new_element d _ _ _ _ (cut g e) = refl
+same_new_element d _ _ _ _ (inside g k h) = refl
+same_new_element d _ _ _ _ (in_place g h k l) = refl
 
 -- The walk
 

@@ -1,5 +1,5 @@
 -- What is left out on both sides, as the code holds it: nothing, or a node or a list of each side without what stayed the same.
-use Rattle.std.specs.Prelude.{List, Option, Some, None}
+use Rattle.std.specs.Prelude.{Bool, true, false, List, [], ◌∷◌, Option, Some, None}
 use Rattle.rx_elem.specs.Trees.{Node}
 use Rattle.rx_beside.specs.declared.lists.PrunedLists.{PrunedLists}
 use Rattle.rx_beside.specs.declared.lists.PrunedNodes.{PrunedNodes}
@@ -23,6 +23,17 @@ old_slot (Some p) = Some p.old
 abbrev pub new_slot : Option Node → Option PrunedNodes → Option Node
 new_slot x None = x
 new_slot x (Some p) = Some p.new
+
+-- what stands at a place of the old list without what stayed the same: nothing, if the old node is left out itself
+abbrev pub old_stay : (left : Bool) → Option Node → Option PrunedNodes → List (Option Node)
+old_stay true o p = []
+old_stay false o None = o ∷ []
+old_stay false o (Some p) = Some p.old ∷ []
+
+-- what stands at the same place of the new one without it
+abbrev pub new_stay : (left : Bool) → Option Node → Option PrunedNodes → List (Option Node)
+new_stay true x p = []
+new_stay false x p = new_slot x p ∷ []
 
 -- the old list without what stayed the same
 abbrev pub old_list : List (Option Node) → Option PrunedLists → List (Option Node)

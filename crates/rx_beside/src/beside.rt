@@ -13,7 +13,7 @@ ghost use Rattle.rx_pruned.specs.Pruned.{Pruned};
 ghost use Rattle.rx_beside.specs.Alike.{AllTakeAlike};
 ghost use Rattle.rx_beside.specs.Parts.{old_part, new_part};
 
-use crate::pairs::{Pair, read_pair, read_whole};
+use crate::pairs::{Pair, bare_pair, read_pair, read_whole};
 use rx_fiber::Fiber;
 use rx_links::{FiberId, FiberTree};
 use rx_node::Node;
@@ -51,7 +51,8 @@ fn read_roots(
 {
     tree.facts();
     if is_made_for_root(tree, root) {
-        read_pair(alloc, tree, root, old, false)
+        let pair = read_pair(alloc, tree, root, old, false)?;
+        bare_pair(alloc, pair)
     } else {
         read_whole(alloc, tree, root)
     }
@@ -62,7 +63,7 @@ fn parts_of(old: &Node, pair: Pair) -> Result<Beside, AllocError>
     ensures tree { IfOk result (λ b. b.tree ≡ pair.tree) }
     ensures pruned { Pruned false old.now pair.tree (old_part old.now pair.pruned) (new_part pair.tree pair.pruned) → IfOk result (λ b. IsBeside (Some old.now) b) }
 {
-    let Pair { tree, pruned } = pair;
+    let Pair { tree, pruned, .. } = pair;
     match pruned {
         Some(nodes) => Ok(Beside {
             tree,
@@ -96,9 +97,10 @@ fn read_first(alloc: Global, tree: &FiberTree<Fiber>, root: FiberId) -> Result<B
 }
 
 /// The tree in progress, once all of it is rendered, as a plain tree, without the vacant places at the ends of its lists, of
-/// which fibers do not tell; and beside it the tree before and this one without lists of children that were taken over. The
-/// nodes of these are those of the tree before, which is given: they are not read again, so that the time is in proportion to
-/// the fibers that were made and to the lists that they stand in.
+/// which fibers do not tell; and beside it the tree before and this one without lists of children that were taken over, and
+/// without children that stay as they are, where all of a list stand in place. The nodes of these are those of the tree
+/// before, which is given: they are not read again, so that the time is in proportion to the fibers that were made and to the
+/// lists that they stand in.
 ///
 /// # Errors
 ///

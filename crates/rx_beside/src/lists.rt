@@ -7,7 +7,7 @@ ghost use Rattle.rx_compare.specs.Matched.{element_at, IsMatched};
 ghost use Rattle.rx_read.specs.Lists.{list_of};
 ghost use Rattle.rx_read.specs.Places.{first_node};
 ghost use Rattle.rx_beside.specs.Children.{IsNodeOf};
-ghost use Rattle.rx_beside.specs.Parts.{old_slot, new_slot, old_list, new_list};
+ghost use Rattle.rx_beside.specs.Parts.{old_slot, new_slot, old_stay, new_stay, old_list, new_list};
 ghost use Rattle.rx_beside.specs.Slots.{replaced};
 
 use rx_compare::elements_of;
@@ -39,11 +39,13 @@ pub(crate) struct Lists {
     pub pruned: Option<PrunedLists>,
 }
 
-// What stands at a place of the new list; and, if something there is left out, the old node and this one without it.
+// What stands at a place of the new list; and, if something there is left out, the old node and this one without it. Or it is
+// the old node, which can be left out itself.
 #[derive(Drop)]
 pub(crate) struct Slot {
     pub tree: Option<Node>,
     pub pruned: Option<PrunedNodes>,
+    pub left: bool,
 }
 
 // The same node, if there is one, by one handle more.
@@ -95,21 +97,23 @@ fn add_whole(lists: &mut Lists, node: Option<Node>) -> Result<(), AllocError>
     Ok(())
 }
 
-// The old list and the new one as far as it goes, both without what stayed the same: as they are, if nothing was left out so far.
+// The old list and the new one as far as it goes, both without what stayed the same: as they are, if nothing was left
+// out so far. There is room for so many new ones at once.
 fn pruned_lists(
     alloc: Global,
     pruned: Option<PrunedLists>,
     old: &[Option<Node>],
-    new: &Vec<Option<Node>>,
+    new: &[Option<Node>],
+    room: usize,
 ) -> Result<PrunedLists, AllocError>
     ensures old { IfOk result (λ p. p.old.items ≡ old_list old.now pruned) }
-    ensures new { IfOk result (λ p. p.new.items ≡ new_list new.now.items pruned) }
+    ensures new { IfOk result (λ p. p.new.items ≡ new_list new.now pruned) }
 {
     match pruned {
         Some(lists) => Ok(lists),
         None => Ok(PrunedLists {
             old: copy_nodes(alloc, old, old.len())?,
-            new: copy_nodes(alloc, new, new.capacity())?,
+            new: copy_nodes(alloc, new, room)?,
         }),
     }
 }
@@ -127,7 +131,8 @@ fn add_pruned(
     ensures pruned_old { OnOk result (old_list old.now lists.new.pruned ≡ replaced (Some nodes.old) place (old_list old.now lists.old.pruned)) }
     ensures pruned_new { OnOk result (new_list lists.new.tree.items lists.new.pruned ≡ new_list lists.old.tree.items lists.old.pruned ++ Some nodes.new ∷ []) }
 {
-    let mut pruned = pruned_lists(alloc, lists.pruned.take(), old, &lists.tree)?;
+    let room = lists.tree.capacity();
+    let mut pruned = pruned_lists(alloc, lists.pruned.take(), old, lists.tree.as_slice(), room)?;
     replace(&mut pruned.old, place, nodes.old);
     pruned.new.push(Some(nodes.new))?;
     lists.pruned = Some(pruned);
@@ -147,10 +152,85 @@ pub(crate) fn add_slot(
     ensures pruned_old { OnOk result (old_list old.now lists.new.pruned ≡ replaced (old_slot slot.pruned) place (old_list old.now lists.old.pruned)) }
     ensures pruned_new { OnOk result (new_list lists.new.tree.items lists.new.pruned ≡ new_list lists.old.tree.items lists.old.pruned ++ new_slot slot.tree slot.pruned ∷ []) }
 {
-    let Slot { tree, pruned } = slot;
+    let Slot { tree, pruned, .. } = slot;
     match pruned {
         Some(nodes) => add_pruned(alloc, lists, old, place, tree, nodes),
         None => add_whole(lists, tree),
+    }
+}
+
+// Goes on with an old node and the new one at its place, of which nothing is left out, or with two vacant places.
+fn add_both(lists: &mut Lists, old: &Option<Node>, node: Option<Node>) -> Result<(), AllocError>
+    ensures tree { OnOk result (lists.new.tree.items ≡ lists.old.tree.items ++ node ∷ []) }
+    ensures pruned_old { (os : List (Option trees.Node)) → OnOk result (old_list (os ++ old.now ∷ []) lists.new.pruned ≡ old_list os lists.old.pruned ++ old.now ∷ []) }
+    ensures pruned_new { OnOk result (new_list lists.new.tree.items lists.new.pruned ≡ new_list lists.old.tree.items lists.old.pruned ++ node ∷ []) }
+{
+    if let Some(pruned) = &mut lists.pruned {
+        pruned.old.push(copy_node(old)?)?;
+        pruned.new.push(copy_node(&node)?)?;
+    }
+    lists.tree.push(node)?;
+    Ok(())
+}
+
+// Goes on behind these old places with a node of which something is left out.
+fn add_nodes(
+    alloc: Global,
+    lists: &mut Lists,
+    before: &[Option<Node>],
+    node: Option<Node>,
+    nodes: PrunedNodes,
+) -> Result<(), AllocError>
+    ensures tree { OnOk result (lists.new.tree.items ≡ lists.old.tree.items ++ node ∷ []) }
+    ensures pruned_old { (os : List (Option trees.Node)) → OnOk result (old_list os lists.new.pruned ≡ old_list before.now lists.old.pruned ++ Some nodes.old ∷ []) }
+    ensures pruned_new { OnOk result (new_list lists.new.tree.items lists.new.pruned ≡ new_list lists.old.tree.items lists.old.pruned ++ Some nodes.new ∷ []) }
+{
+    let new = lists.tree.as_slice();
+    let mut pruned = pruned_lists(alloc, lists.pruned.take(), before, new, new.len())?;
+    pruned.old.push(Some(nodes.old))?;
+    pruned.new.push(Some(nodes.new))?;
+    lists.pruned = Some(pruned);
+    lists.tree.push(node)?;
+    Ok(())
+}
+
+// Goes on behind these old places with a node that is left out itself.
+fn leave_out(
+    alloc: Global,
+    lists: &mut Lists,
+    before: &[Option<Node>],
+    node: Option<Node>,
+) -> Result<(), AllocError>
+    ensures tree { OnOk result (lists.new.tree.items ≡ lists.old.tree.items ++ node ∷ []) }
+    ensures pruned_old { (os : List (Option trees.Node)) → OnOk result (old_list os lists.new.pruned ≡ old_list before.now lists.old.pruned) }
+    ensures pruned_new { OnOk result (new_list lists.new.tree.items lists.new.pruned ≡ new_list lists.old.tree.items lists.old.pruned) }
+{
+    let new = lists.tree.as_slice();
+    let pruned = pruned_lists(alloc, lists.pruned.take(), before, new, new.len())?;
+    lists.pruned = Some(pruned);
+    lists.tree.push(node)?;
+    Ok(())
+}
+
+// Goes on with what stands at the place behind these old ones, where this stood.
+pub(crate) fn add_in_place(
+    alloc: Global,
+    lists: &mut Lists,
+    before: &[Option<Node>],
+    old: &Option<Node>,
+    slot: Slot,
+) -> Result<(), AllocError>
+    ensures tree { OnOk result (lists.new.tree.items ≡ lists.old.tree.items ++ slot.tree ∷ []) }
+    ensures pruned_old { OnOk result (old_list (before.now ++ old.now ∷ []) lists.new.pruned ≡ old_list before.now lists.old.pruned ++ old_stay slot.left old.now slot.pruned) }
+    ensures pruned_new { OnOk result (new_list lists.new.tree.items lists.new.pruned ≡ new_list lists.old.tree.items lists.old.pruned ++ new_stay slot.left slot.tree slot.pruned) }
+{
+    let Slot { tree, pruned, left } = slot;
+    if left {
+        return leave_out(alloc, lists, before, tree);
+    }
+    match pruned {
+        Some(nodes) => add_nodes(alloc, lists, before, tree, nodes),
+        None => add_both(lists, old, tree),
     }
 }
 

@@ -15,11 +15,12 @@ ghost use Rattle.rx_compare.specs.InPlace.{AreInPlace};
 ghost use Rattle.rx_beside.specs.Alike.{AllTakeAlike};
 ghost use Rattle.rx_beside.specs.Children.{IsChildOf, IsNodeOf, WasOver};
 ghost use Rattle.rx_beside.specs.Parts.{old_part, new_part, old_slot, new_slot, old_list, new_list};
-ghost use Rattle.rx_beside.specs.Slots.{IsKept, IsSlot, AreLists};
+ghost use Rattle.rx_beside.specs.Slots.{IsKept, IsLeft, IsSlot, AreLists};
 
 use crate::children::{children_of, is_begun};
 use crate::lists::{
-    Lists, PrunedLists, PrunedNodes, Slot, add_slot, are_in_place, copy_nodes, match_fibers,
+    Lists, PrunedLists, PrunedNodes, Slot, add_in_place, add_slot, are_in_place, copy_nodes,
+    match_fibers,
 };
 use rx_compare::node_at;
 use rx_elem::Element;
@@ -29,11 +30,13 @@ use rx_node::{Mark, Node};
 use rx_read::{made_child, read_fiber};
 use std::alloc::{AllocError, Global};
 
-// A node of the finished tree; and, if something is left out, the old node and this one without it.
+// A node of the finished tree; and, if something is left out, the old node and this one without it. Or it is the old node,
+// which can be left out itself.
 #[derive(Drop)]
 pub(crate) struct Pair {
     pub tree: Node,
     pub pruned: Option<PrunedNodes>,
+    pub left: bool,
 }
 
 // The number of a host or a text.
@@ -148,16 +151,22 @@ fn pair_over(
 ) -> Result<Pair, AllocError>
     ensures tree { IfOk result (λ p. p.tree ≡ node element.now (mark_seen mark.now) (forest lists.tree.items) none) }
     ensures pruned { (d : Bool) → (os : List (Option trees.Node)) → GoesOn (mark_of old.now) (mark_seen mark.now) → forest os ≡ children_of old.now → fallback_of old.now ≡ none → AreLists (displaced_below d (mark_seen mark.now)) (forest os) (forest lists.tree.items) (forest (old_list os lists.pruned)) (forest (new_list lists.tree.items lists.pruned)) → IfOk result (λ p. Pruned d old.now p.tree (old_part old.now p.pruned) (new_part p.tree p.pruned)) }
+    ensures left { IfOk result (λ p. p.left ≡ false) }
 {
     let Lists { tree, pruned } = lists;
     let tree = node_over(alloc, element, mark, tree)?;
     let Some(lists) = pruned else {
-        return Ok(Pair { tree, pruned: None });
+        return Ok(Pair {
+            tree,
+            pruned: None,
+            left: false,
+        });
     };
     let nodes = nodes_over(alloc, old, element, mark, lists)?;
     Ok(Pair {
         tree,
         pruned: Some(nodes),
+        left: false,
     })
 }
 
@@ -171,9 +180,14 @@ pub(crate) fn read_whole(
     requires node { (x : trees.Node) × (first_node (list_of tree.now (Some id)) ≡ Some x) }
     ensures tree { IfOk result (λ p. Some p.tree ≡ first_node (list_of tree.now (Some id))) }
     ensures pruned { (d : Bool) → (o : trees.Node) → IfOk result (λ p. Pruned d o p.tree (old_part o p.pruned) (new_part p.tree p.pruned)) }
+    ensures left { IfOk result (λ p. p.left ≡ false) }
 {
     match read_fiber(alloc, tree, id)? {
-        Some(tree) => Ok(Pair { tree, pruned: None }),
+        Some(tree) => Ok(Pair {
+            tree,
+            pruned: None,
+            left: false,
+        }),
         None => unreachable!(),
     }
 }
@@ -197,23 +211,78 @@ fn same_lists(alloc: Global, old: &[Option<Node>], displaced: bool) -> Result<Li
     })
 }
 
-// The old node, which stays: without its list it is one node on both sides. Nothing is left out if something above moved.
-fn kept_pair(alloc: Global, old: &Node, displaced: bool) -> Result<Pair, AllocError>
-    ensures tree { IfOk result (λ p. p.tree ≡ old.now) }
-    ensures pruned { (d : Bool) → GoesOn (mark_of old.now) (mark_of old.now) → displaced ≡ displaced_below d (mark_of old.now) → fallback_of old.now ≡ none → IfOk result (λ p. Pruned d old.now p.tree (old_part old.now p.pruned) (new_part p.tree p.pruned)) }
+// A node without its list, as it is on both sides.
+fn bare_nodes(alloc: Global, node: &Node) -> Result<PrunedNodes, AllocError>
+    ensures { (d : Bool) → GoesOn (mark_of node.now) (mark_of node.now) → displaced_below d (mark_of node.now) ≡ false → fallback_of node.now ≡ none → IfOk result (λ p. Pruned d node.now node.now p.old p.new) }
 {
-    let tree = old.copy()?;
-    if displaced {
-        return Ok(Pair { tree, pruned: None });
-    }
-    let bare = node_over(alloc, old.element(), old.mark(), Vec::new(alloc))?;
-    let nodes = PrunedNodes {
+    let bare = node_over(alloc, node.element(), node.mark(), Vec::new(alloc))?;
+    Ok(PrunedNodes {
         old: bare.copy()?,
         new: bare,
-    };
+    })
+}
+
+// A node beside the old one where it cannot be left out itself: it is without its list in place of that.
+pub(crate) fn bare_pair(alloc: Global, pair: Pair) -> Result<Pair, AllocError>
+    ensures tree { IfOk result (λ p. p.tree ≡ pair.tree) }
+    ensures pruned { (d : Bool) → (o : trees.Node) → Pruned d o pair.tree (old_part o pair.pruned) (new_part pair.tree pair.pruned) → (pair.left ≡ true → IsLeft d (Some o) (Some pair.tree)) → IfOk result (λ p. Pruned d o p.tree (old_part o p.pruned) (new_part p.tree p.pruned)) }
+{
+    if pair.left {
+        let nodes = bare_nodes(alloc, &pair.tree)?;
+        return Ok(Pair {
+            tree: pair.tree,
+            pruned: Some(nodes),
+            left: false,
+        });
+    }
+    Ok(pair)
+}
+
+// The same of what stands at a place.
+fn bare_slot(alloc: Global, slot: Slot) -> Result<Slot, AllocError>
+    ensures tree { IfOk result (λ s. s.tree ≡ slot.tree) }
+    ensures pruned { (d : Bool) → (o : Option trees.Node) → IsSlot d o slot.tree (old_slot slot.pruned) (new_slot slot.tree slot.pruned) → (slot.left ≡ true → IsLeft d o slot.tree) → IfOk result (λ s. IsSlot d o s.tree (old_slot s.pruned) (new_slot s.tree s.pruned)) }
+{
+    if slot.left
+        && let Some(node) = &slot.tree
+    {
+        let nodes = bare_nodes(alloc, node)?;
+        return Ok(Slot {
+            tree: slot.tree,
+            pruned: Some(nodes),
+            left: false,
+        });
+    }
+    Ok(slot)
+}
+
+// The old node, which stays: it can be left out itself, unless it or something above moved. It is without its list then, if it
+// is a host that moved.
+fn kept_pair(alloc: Global, old: &Node, displaced: bool) -> Result<Pair, AllocError>
+    ensures tree { IfOk result (λ p. p.tree ≡ old.now) }
+    ensures pruned { GoesOn (mark_of old.now) (mark_of old.now) → fallback_of old.now ≡ none → IfOk result (λ p. Pruned displaced old.now p.tree (old_part old.now p.pruned) (new_part p.tree p.pruned)) }
+    ensures left { GoesOn (mark_of old.now) (mark_of old.now) → fallback_of old.now ≡ none → IfOk result (λ p. p.left ≡ true → IsLeft displaced (Some old.now) (Some p.tree)) }
+{
+    let tree = old.copy()?;
+    if !displaced {
+        return Ok(Pair {
+            tree,
+            pruned: None,
+            left: true,
+        });
+    }
+    if displaced_below(displaced, old.mark()) {
+        return Ok(Pair {
+            tree,
+            pruned: None,
+            left: false,
+        });
+    }
+    let nodes = bare_nodes(alloc, old)?;
     Ok(Pair {
         tree,
         pruned: Some(nodes),
+        left: false,
     })
 }
 
@@ -226,13 +295,15 @@ fn taken_pair(
     displaced: bool,
 ) -> Result<Pair, AllocError>
     ensures tree { IsKept old.now (node element.now (mark_seen mark.now) (children_of old.now) none) → IfOk result (λ p. p.tree ≡ node element.now (mark_seen mark.now) (children_of old.now) none) }
-    ensures pruned { (d : Bool) → IsKept old.now (node element.now (mark_seen mark.now) (children_of old.now) none) → GoesOn (mark_of old.now) (mark_seen mark.now) → displaced ≡ displaced_below d (mark_seen mark.now) → fallback_of old.now ≡ none → IfOk result (λ p. Pruned d old.now p.tree (old_part old.now p.pruned) (new_part p.tree p.pruned)) }
+    ensures pruned { IsKept old.now (node element.now (mark_seen mark.now) (children_of old.now) none) → GoesOn (mark_of old.now) (mark_seen mark.now) → fallback_of old.now ≡ none → IfOk result (λ p. Pruned displaced old.now p.tree (old_part old.now p.pruned) (new_part p.tree p.pruned)) }
+    ensures left { IsKept old.now (node element.now (mark_seen mark.now) (children_of old.now) none) → GoesOn (mark_of old.now) (mark_seen mark.now) → fallback_of old.now ≡ none → IfOk result (λ p. p.left ≡ true → IsLeft displaced (Some old.now) (Some p.tree)) }
 {
     if old.mark().is_fixed() {
         let kept = kept_pair(alloc, old, displaced)?;
         return Ok(kept);
     }
-    let lists = same_lists(alloc, old.children(), displaced)?;
+    let below = displaced_below(displaced, mark);
+    let lists = same_lists(alloc, old.children(), below)?;
     let pair = pair_over(alloc, old, element, mark, lists)?;
     Ok(pair)
 }
@@ -253,17 +324,18 @@ pub(crate) fn read_pair(
     requires node { (x : trees.Node) × (first_node (list_of tree.now (Some id)) ≡ Some x) }
     ensures tree { IfOk result (λ p. Some p.tree ≡ first_node (list_of tree.now (Some id))) }
     ensures pruned { IfOk result (λ p. Pruned displaced old.now p.tree (old_part old.now p.pruned) (new_part p.tree p.pruned)) }
+    ensures left { IfOk result (λ p. p.left ≡ true → IsLeft displaced (Some old.now) (Some p.tree)) }
 {
     tree.facts();
     let fiber = tree.value(id);
     if let Stage::Begun(mark) = fiber.stage()
         && goes_on(old.mark(), mark)
     {
-        let below = displaced_below(displaced, mark);
         if takes_over(tree, id) {
-            let taken = taken_pair(alloc, old, fiber.element(), mark, below)?;
+            let taken = taken_pair(alloc, old, fiber.element(), mark, displaced)?;
             return Ok(taken);
         }
+        let below = displaced_below(displaced, mark);
         let lists = read_made(alloc, tree, id, old.children(), below)?;
         let pair = pair_over(alloc, old, fiber.element(), mark, lists)?;
         return Ok(pair);
@@ -324,7 +396,7 @@ fn read_in_place(
     'going: for i in 0..fibers.len() {
         let place = Some(i as u32);
         let slot = read_slot(alloc, tree, fibers[i], old, place, displaced)?;
-        add_slot(alloc, &mut lists, old, place, slot)?;
+        add_in_place(alloc, &mut lists, &old[..i], &old[i], slot)?;
     }
     Ok(lists)
 }
@@ -356,7 +428,8 @@ fn read_matched(
         let place = matching.places[i];
         let moved = or_moved(displaced, matching.moved[i]);
         let slot = read_slot(alloc, tree, fibers[i], old, place, moved)?;
-        add_slot(alloc, &mut lists, old, place, slot)?;
+        let whole = bare_slot(alloc, slot)?;
+        add_slot(alloc, &mut lists, old, place, whole)?;
     }
     Ok(lists)
 }
@@ -376,11 +449,13 @@ fn read_slot(
     requires alike { AllTakeAlike tree.now.current tree.now.draft }
     ensures tree { IfOk result (λ s. s.tree ≡ first_node (list_of tree.now child)) }
     ensures pruned { IfOk result (λ s. IsSlot displaced (option_and_then (node_at (forest old.now)) place) s.tree (old_slot s.pruned) (new_slot s.tree s.pruned)) }
+    ensures left { IfOk result (λ s. s.left ≡ true → IsLeft displaced (option_and_then (node_at (forest old.now)) place) s.tree) }
 {
     let Some(id) = child else {
         return Ok(Slot {
             tree: None,
             pruned: None,
+            left: false,
         });
     };
     match was_beside(tree, id, old, place) {
@@ -389,11 +464,13 @@ fn read_slot(
             Ok(Slot {
                 tree: Some(pair.tree),
                 pruned: pair.pruned,
+                left: pair.left,
             })
         }
         None => Ok(Slot {
             tree: read_fiber(alloc, tree, id)?,
             pruned: None,
+            left: false,
         }),
     }
 }

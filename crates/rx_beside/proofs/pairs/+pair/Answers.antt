@@ -1,4 +1,5 @@
 use Rattle.std.proofs.Common.{map, All, IfSome, Some, refl, sym, ap, ◌∙◌, subst, arith}
+use Rattle.std.proofs.lemmas.List.{length-take-le}
 use Rattle.std.proofs.lemmas.List.Elements.{All-get_or}
 use Rattle.std.specs.Prelude.{option_and_then}
 use Rattle.rx_elem.specs.Trees.{node, none, forest, children_of, shows_fallback}
@@ -10,7 +11,7 @@ use Rattle.rx_read.specs.Lists.{list_of}
 use Rattle.rx_read.specs.Places.{places_in, first_node}
 use Rattle.rx_beside.specs.Children.{IsNodeOf}
 use Rattle.rx_beside.specs.Parts.{old_slot, new_slot, old_list, new_list}
-use Rattle.rx_beside.specs.Slots.{IsKept, IsSlot, AreLists}
+use Rattle.rx_beside.specs.Slots.{IsKept, IsLeft, IsSlot, AreLists}
 use Rattle.rx_beside.specs.Slots as slots
 use Rattle.rx_beside.proofs.Standing.{beside_at, old_children, new_node}
 use Rattle.rx_beside.proofs.Keeping.{kept_node, taken_node}
@@ -77,10 +78,11 @@ pub read_matched-going-preserved : goal.read_matched-going-preserved
 read_matched-going-preserved t c =
     let trees = c.args.tree.now in
     let m = c.in_ok-matching.matching in
-    let slot = subst (λ d. IsSlot d (option_and_then (node_at (forest c.args.old.now)) c.index-place.result.now) c.in_ok-slot.slot.tree (old_slot c.in_ok-slot.slot.pruned) (new_slot c.in_ok-slot.slot.tree c.in_ok-slot.slot.pruned)) c.or_moved-moved.ensures c.in_ok-slot.ensures.pruned in
+    let slot = subst (λ d. IsSlot d (option_and_then (node_at (forest c.args.old.now)) c.index-place.result.now) c.in_ok-whole.whole.tree (old_slot c.in_ok-whole.whole.pruned) (new_slot c.in_ok-whole.whole.tree c.in_ok-whole.whole.pruned)) c.or_moved-moved.ensures
+    (c.in_ok-whole.ensures.pruned c.or_moved-moved.result (option_and_then (node_at (forest c.args.old.now)) c.index-place.result.now) c.in_ok-slot.ensures.pruned c.in_ok-slot.ensures.left) in
     let r = step c.args.displaced c.args.old.now (λ o. first_node (list_of trees o)) c.args.fibers.now m c.in_ok-matching.ensures c.going.i c.going-test.true
     c.index-fibers-i.result c.index-place.result.now c.index.result.now c.index-fibers-i.is c.index-place.ensures c.index.ensures
-    _ _ _ _ _ _ _ _ _ c.going.invariant.tree c.going.invariant.walked c.in_ok-slot.ensures.tree slot
+    _ _ _ _ _ _ _ _ _ c.going.invariant.tree c.going.invariant.walked (c.in_ok-whole.ensures.tree ∙ c.in_ok-slot.ensures.tree) slot
     c.in_ok-add_slot.ensures.tree c.in_ok-add_slot.ensures.pruned_old c.in_ok-add_slot.ensures.pruned_new in
     record { tree = r.0; walked = r.1 }
 
@@ -103,7 +105,7 @@ read_matched-returns-clause-pruned t c =
 pub read_in_place-going-init : goal.read_in_place-going-init
 read_in_place-going-init t c = record {
   tree = c.in_ok-with_capacity.ensures.items;
-  walked = stay.none_stays_in c.args.displaced c.args.old.now _ c.in_ok-with_capacity.ensures.items;
+  walked = stay.none_stays_yet c.args.displaced _ _ _ c.in_ok-with_capacity.ensures.items refl c.in_ok-with_capacity.ensures.items;
 }
 
 pub read_in_place-read_slot-requires : goal.read_in_place-read_slot-requires
@@ -114,25 +116,39 @@ read_in_place-read_slot-requires t c =
     let smaller = slot_lower trees c.facts.ensures.fits c.facts.ensures.linked c.args.id c.requires.over.made o node in
     (omega (arith, c.decreases, smaller), ((c.args.id, c.requires.over, node), (c.requires.tree, c.requires.alike)))
 
+pub read_in_place-slice_bounds-add_in_place-end : goal.read_in_place-slice_bounds-add_in_place-end
+read_in_place-slice_bounds-add_in_place-end t c =
+    let trees = c.args.tree.now in
+    let e = stay.even c.args.displaced c.args.old.now (λ o. first_node (list_of trees o)) c.args.fibers.now c.requires.same in
+    sym (length-take-le c.going.i c.args.old.now (omega (arith, e, c.going-test.true)))
+
+pub read_in_place-bounds-old-i : goal.read_in_place-bounds-old-i
+read_in_place-bounds-old-i t c =
+    let trees = c.args.tree.now in
+    let e = stay.even c.args.displaced c.args.old.now (λ o. first_node (list_of trees o)) c.args.fibers.now c.requires.same in
+    omega (arith, e, c.going-test.true)
+
 pub read_in_place-going-preserved : goal.read_in_place-going-preserved
 read_in_place-going-preserved t c =
     let trees = c.args.tree.now in
-    let r = stay.step_in c.args.displaced c.args.old.now (λ o. first_node (list_of trees o)) c.args.fibers.now c.requires.same c.going.i c.going-test.true c.index-fibers-i.result c.index-fibers-i.is
-    _ _ _ _ _ _ _ _ _ c.going.invariant.tree c.going.invariant.walked c.in_ok-slot.ensures.tree c.in_ok-slot.ensures.pruned
-    c.in_ok-add_slot.ensures.tree c.in_ok-add_slot.ensures.pruned_old c.in_ok-add_slot.ensures.pruned_new in
+    let r = stay.step c.args.displaced c.args.old.now (λ o. first_node (list_of trees o)) c.args.fibers.now c.requires.same c.going.i c.going-test.true
+    c.index-fibers-i.result c.index-old-i.result c.index-fibers-i.is c.index-old-i.is
+    _ c.going.lists.pruned c.add_in_place.new.lists.pruned _ c.in_ok-slot.slot.tree c.in_ok-slot.slot.pruned c.in_ok-slot.slot.left c.going.invariant.tree c.going.invariant.walked
+    c.in_ok-slot.ensures.tree c.in_ok-slot.ensures.pruned c.in_ok-slot.ensures.left
+    c.in_ok-add_in_place.ensures.tree c.in_ok-add_in_place.ensures.pruned_old c.in_ok-add_in_place.ensures.pruned_new in
     record { tree = r.0; walked = r.1 }
 
 pub read_in_place-returns-clause-tree : goal.read_in_place-returns-clause-tree
 read_in_place-returns-clause-tree t c =
     let trees = c.args.tree.now in
     let l = c.going-test.false in
-    (stay.done_in c.args.displaced c.args.old.now (λ o. first_node (list_of trees o)) c.args.fibers.now c.requires.same c.going.i (omega arith) _ _ _ c.going.invariant.tree c.going.invariant.walked).0
+    (stay.done c.args.displaced c.args.old.now (λ o. first_node (list_of trees o)) c.args.fibers.now c.requires.same c.going.i (omega arith) _ c.going.lists.pruned c.going.invariant.tree c.going.invariant.walked).0
 
 pub read_in_place-returns-clause-pruned : goal.read_in_place-returns-clause-pruned
 read_in_place-returns-clause-pruned t c =
     let trees = c.args.tree.now in
     let l = c.going-test.false in
-    (stay.done_in c.args.displaced c.args.old.now (λ o. first_node (list_of trees o)) c.args.fibers.now c.requires.same c.going.i (omega arith) _ _ _ c.going.invariant.tree c.going.invariant.walked).1
+    (stay.done c.args.displaced c.args.old.now (λ o. first_node (list_of trees o)) c.args.fibers.now c.requires.same c.going.i (omega arith) _ c.going.lists.pruned c.going.invariant.tree c.going.invariant.walked).1
 
 pub read_pair-read_made-requires : goal.read_pair-read_made-requires
 read_pair-read_made-requires t c =
@@ -199,8 +215,25 @@ read_pair-returns-then-takes_over-clause-pruned t c =
     let kept : IsKept old (node v.element w (children_of old) none) =
     λ fixed. kept_node trees c.facts.ensures.fits c.facts.ensures.linked c.requires.alike c.args.id c.requires.made old c.requires.old fixed took some v value w stage g.new_shown was in
     let o = old_children trees c.facts.ensures.fits c.facts.ensures.linked c.args.id c.requires.made old c.requires.old was in
-    c.in_ok-taken.ensures.pruned c.args.displaced (subst (λ e. IsKept old (node e w (children_of old) none)) (sym c.element.ensures) kept) (subst (λ m. GoesOn m w) c.mark.ensures g)
-    c.displaced_below-below.ensures o.1
+    c.in_ok-taken.ensures.pruned (subst (λ e. IsKept old (node e w (children_of old) none)) (sym c.element.ensures) kept) (subst (λ m. GoesOn m w) c.mark.ensures g) o.1
+
+pub read_pair-returns-then-takes_over-clause-left : goal.read_pair-returns-then-takes_over-clause-left
+read_pair-returns-then-takes_over-clause-left t c =
+    let trees = c.args.tree.now in
+    let old = c.args.old.now in
+    let v = c.value-fiber.result.now in
+    let w = mark_seen c.in-Begun.mark in
+    let g = c.goes_on.ensures.goes c.if-goes_on.true in
+    let shown = c.goes_on.ensures.shown c.if-goes_on.true in
+    let was = ap shows_fallback (sym c.mark.ensures) ∙ shown.0 in
+    let value = c.value-fiber.ensures.made c.requires.made in
+    let stage = sym c.stage.ensures ∙ ap stage_seen c.in-Begun.is in
+    let took = c.takes_over.ensures.taken c.if-takes_over.true in
+    let some = c.takes_over.ensures.some c.if-takes_over.true in
+    let kept : IsKept old (node v.element w (children_of old) none) =
+    λ fixed. kept_node trees c.facts.ensures.fits c.facts.ensures.linked c.requires.alike c.args.id c.requires.made old c.requires.old fixed took some v value w stage g.new_shown was in
+    let o = old_children trees c.facts.ensures.fits c.facts.ensures.linked c.args.id c.requires.made old c.requires.old was in
+    c.in_ok-taken.ensures.left (subst (λ e. IsKept old (node e w (children_of old) none)) (sym c.element.ensures) kept) (subst (λ m. GoesOn m w) c.mark.ensures g) o.1
 
 pub read_slot-returns-in_default-clause-pruned : goal.read_slot-returns-in_default-clause-pruned
 read_slot-returns-in_default-clause-pruned t c = slots.kept
@@ -211,3 +244,7 @@ read_slot-returns-in_ok-pair-in-Some-was_beside-clause-pruned t c =
 
 pub read_slot-returns-in_ok-read_fiber-in-None-clause-pruned : goal.read_slot-returns-in_ok-read_fiber-in-None-clause-pruned
 read_slot-returns-in_ok-read_fiber-in-None-clause-pruned t c = slots.kept
+
+pub read_slot-returns-in_ok-pair-in-Some-was_beside-clause-left : goal.read_slot-returns-in_ok-pair-in-Some-was_beside-clause-left
+read_slot-returns-in_ok-pair-in-Some-was_beside-clause-left t c = λ e.
+    subst (λ o. IsLeft c.args.displaced o (Some c.in_ok-pair-in-Some-was_beside.pair.tree)) (sym c.in-Some-was_beside.ensures.at) (c.in_ok-pair-in-Some-was_beside.ensures.left e)

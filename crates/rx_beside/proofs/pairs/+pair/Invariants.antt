@@ -4,7 +4,7 @@ use Rattle.rx_read.specs.Lists.{list_of}
 use Rattle.rx_read.specs.Places.{first_node}
 use Rattle.rx_beside.specs.Parts.{old_list, new_list}
 use Rattle.rx_beside.proofs.Walking.{Walked}
-use Rattle.rx_beside.proofs.Staying.{StaysIn}
+use Rattle.rx_beside.proofs.Staying.{Stays}
 use Rattle.rx_beside.proofs.pairs.+pair.Given as goal
 
 abbrev pub decreases-read_pair : goal.decreases-read_pair
@@ -33,5 +33,5 @@ invariant-read_matched-going l = record {
 abbrev pub invariant-read_in_place-going : goal.invariant-read_in_place-going
 invariant-read_in_place-going l = record {
   tree : l.lists.tree.items ≡ map (λ o. first_node (list_of l.tree o)) (take l.i l.fibers);
-  walked : StaysIn l.fn.displaced l.old l.i l.lists.tree.items (old_list l.old l.lists.pruned) (new_list l.lists.tree.items l.lists.pruned);
+  walked : Stays l.fn.displaced (take l.i l.old) l.lists.tree.items (old_list (take l.i l.old) l.lists.pruned) (new_list l.lists.tree.items l.lists.pruned);
 }
