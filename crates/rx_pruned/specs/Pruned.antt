@@ -1,4 +1,4 @@
--- An old tree and the new one that it became, both without some lists of children that stayed the same.
+-- An old tree and the new one that it became, both without some children that stayed the same.
 use Rattle.std.specs.Prelude.{◌≡◌, ℕ, Bool, false, ◌||◌, List, [], ◌∷◌, Option, Some, None, if◌then◌else◌}
 use Rattle.rx_elem.specs.Elements.{Element}
 use Rattle.rx_elem.specs.Identity.{old_places, is_reused}
@@ -48,7 +48,7 @@ mutual
         → Pruned (d || moved) o n p q → PrunedIn d ps ns qs ms → PrunedIn d (was o moved ∷ ps) (child n ns) (was p moved ∷ qs) (child q ms)
     left : {d : Bool} {n : Node} {ps qs : List Past} {ns ms : Forest} → d ≡ false → PrunedIn d ps ns qs ms → PrunedIn d (was n false ∷ ps) (child n ns) qs ms
 
--- A new tree beside the old one, if there is one, and both without some lists that stayed the same.
+-- A new tree beside the old one, if there is one, and both without some children that stayed the same.
 pub data ArePruned : (old : Option Node) → (new : Node) → (pruned_old : Option Node) → (pruned_new : Node) → Type 0 where
   first : {n : Node} → ArePruned None n None n
   later : {o n p q : Node} → Pruned false o n p q → ArePruned (Some o) n (Some p) q
