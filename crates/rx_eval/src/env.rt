@@ -22,9 +22,9 @@ enum Bound<'a> {
     Value(&'a Name, Int, &'a Env<'a>),
 }
 
-// Whether two names have the same bytes. A name has at most 64 characters, so this is never deep; each use of a variable asks it, and it takes
-// a fifth of the time that the comparison of texts takes, which is made for long ones.
-fn same_bytes(one: &[u8], other: &[u8]) -> bool
+/// Whether two short texts have the same bytes. A name or a text of a program that is accepted is short, so this is never deep. Each use of
+/// a variable asks it, and it takes a fifth of the time that the comparison of texts takes, which is made for long ones.
+pub fn same_bytes(one: &[u8], other: &[u8]) -> bool
     ensures { result ≡ pointwise nat_eq one.now other.now }
 {
     match (one.split_first(), other.split_first()) {

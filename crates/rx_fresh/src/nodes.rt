@@ -13,6 +13,7 @@ use crate::place::{Place, Places};
 use rx_base::{Awaits, Int, Str};
 use rx_compare::children_if;
 use rx_elem::{Element, ElementKind};
+use rx_eval::same_bytes;
 use rx_node::{Mark, Node};
 use rx_susp::BoundaryState;
 use std::alloc::{AllocError, Global};
@@ -70,7 +71,7 @@ fn has_text(element: &Element, text: &Str) -> bool
     ensures { result ≡ true → element.now ≡ elements.text text.now }
 {
     match element.kind() {
-        ElementKind::Text(own) => own.text().as_bytes() == text.text().as_bytes(),
+        ElementKind::Text(own) => { same_bytes(own.text().as_bytes(), text.text().as_bytes()) }
         _ => false,
     }
 }
