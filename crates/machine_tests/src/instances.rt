@@ -95,12 +95,26 @@ fn a_path_leads_to_an_instance(rt: HostRuntime) -> Result<(), Fail> {
     let checked = check(rt.alloc(), counter(rt.alloc())?)?;
     let tree = counted(rt.alloc())?;
     let dispatch = set_seven(rt.alloc())?;
+    let known = Ways::new(rt.alloc());
     let mut sent = Ways::new(rt.alloc());
-    let found = find_instance(&checked, &tree, dispatch_path(&dispatch), &mut sent);
+    let found = find_instance(&checked, &tree, dispatch_path(&dispatch), &known, &mut sent);
     assert_eq!(rt; found.map(|f| f.number), Some(1));
     assert!(rt; sent.has(1));
     assert_eq!(rt; node_count(&tree), 1);
     assert_eq!(rt; hidden_count(&tree), 0);
+    Ok(())
+}
+
+#[test]
+fn what_is_known_is_not_sent(rt: HostRuntime) -> Result<(), Fail> {
+    let checked = check(rt.alloc(), counter(rt.alloc())?)?;
+    let tree = counted(rt.alloc())?;
+    let dispatch = set_seven(rt.alloc())?;
+    let known = Ways::everything(rt.alloc());
+    let mut sent = Ways::new(rt.alloc());
+    let found = find_instance(&checked, &tree, dispatch_path(&dispatch), &known, &mut sent);
+    assert_eq!(rt; found.map(|f| f.number), Some(1));
+    assert!(rt; !sent.has(1));
     Ok(())
 }
 

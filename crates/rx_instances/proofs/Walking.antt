@@ -12,6 +12,7 @@ use Rattle.rx_fiber.specs.Fibers.{Fiber}
 use Rattle.rx_fiber.specs.OldLists.{primary_list}
 use Rattle.rx_fiber.specs.Reading.{IsOld, IsTreeOf}
 use Rattle.rx_meaning.specs.Settled.{number_of}
+use Rattle.rx_ways.specs.Walk.{hinted}
 use Rattle.rx_ways.specs.Ways.{Ways, is_way}
 use Rattle.rx_instances.specs.Nearest.{Told, named, nearest_if, nearest_in, node_at, told, told_of}
 use Rattle.rx_instances.specs.NearFibers.{IsFoundAt, found_by, instance_at, near_fibers, told_in}
@@ -19,15 +20,15 @@ use Rattle.rx_instances.specs.declared.find.Found.{Found}
 use Rattle.rx_instances.proofs.NearOlds.{first_old, is_old, next_old, no_old, old_instance}
 use Rattle.rx_instances.proofs.Walked.{Walked, walked_first, walked_more}
 
--- a fiber puts the node for which it stands on the ways
-abbrev pub PutsFiber : Shape Fiber → ℕ → Ways → Type 0
-PutsFiber c i new = (x : Node) (m : ℕ) → IsOld c (Some i) (Some x) → number_of (mark_of x) ≡ Some m → is_way new m ≡ true
+-- a fiber puts the node for which it stands on the ways unless it is known to be on one
+abbrev pub PutsFiber : Shape Fiber → ℕ → (known new : Ways) → Type 0
+PutsFiber c i known new = (x : Node) (m : ℕ) → IsOld c (Some i) (Some x) → number_of (mark_of x) ≡ Some m → hinted known new m ≡ true
 
 -- So many parts of a path were walked, to a fiber: it is the current one of the node to which they lead.
-pub record WalksTo (p : Program) (y : Option Node) (c : Shape Fiber) (path : Path) (w : ℕ) (i : ℕ) (old new : Ways) : Type 0 where
+pub record WalksTo (p : Program) (y : Option Node) (c : Shape Fiber) (path : Path) (w : ℕ) (i : ℕ) (known old new : Ways) : Type 0 where
   pub node : Node
   pub stands : IsOld c (Some i) (Some node)
-  pub walked : Walked p y path w node old new
+  pub walked : Walked p y path w node known old new
 
 -- ---- what is told of a fiber
 
@@ -82,6 +83,13 @@ told_number c i n x v old is e = subst (λ (o : Option Instance). (f : Found) ×
     by_mark (of_catcher c) e = absurd (none-some n e)
     by_mark plain e = absurd (none-some n e)
 
+-- what is told of such a fiber has this number
+pub number_found : (c : Shape Fiber) (i n : ℕ) (x : Node) (v : Fiber) → IsOld c (Some i) (Some x) → Some v ≡ value_of c i → number_of (mark_of x) ≡ Some n
+    → (f : Found) → Some f ≡ option_and_then (found_by i) (instance_at v.stage) → f.number ≡ n
+number_found c i n x v old is e f same =
+    let (g, found, number) = told_number c i n x v old is e in
+    ap (λ (h : Found). h.number) (same_Some f g (same ∙ found)) ∙ number
+
 -- ---- from part to part
 
 -- ways that were there stay
@@ -89,15 +97,15 @@ abbrev pub Keeps : (old new : Ways) → Type 0
 Keeps old new = (m : ℕ) → is_way old m ≡ true → is_way new m ≡ true
 
 module _ (p : Program) (y : Option Node) (c : Shape Fiber) (linked : IsLinked c) where
-  pub first_walks : (path rest : Path) (part : Name × ℕ) (i : ℕ) (old new : Ways) → IsTreeOf y c → path ≡ part ∷ rest → Some i ≡ slice_get (near_fibers p part.0 c) part.1
-      → PutsFiber c i new → Keeps old new → WalksTo p y c path 1 i old new
-  first_walks path rest part i old new tree is at puts keeps =
+  pub first_walks : (path rest : Path) (part : Name × ℕ) (i : ℕ) (known old new : Ways) → IsTreeOf y c → path ≡ part ∷ rest → Some i ≡ slice_get (near_fibers p part.0 c) part.1
+      → PutsFiber c i known new → Keeps old new → WalksTo p y c path 1 i known old new
+  first_walks path rest part i known old new tree is at puts keeps =
       let here = subst (λ q. IsOld c q (slice_get (named p part.0 (nearest_if y)) part.1)) (sym at) (first_old p part.0 c linked y tree part.1) in
       let (x, leads, stands) = is_old c (slice_get (named p part.0 (nearest_if y)) part.1) i here in
       record {
         node = x;
         stands = stands;
-        walked = walked_first p y path rest part x old new is leads (record { here = λ m. puts x m stands; others = keeps });
+        walked = walked_first p y path rest part x known old new is leads (record { here = λ m. puts x m stands; others = keeps });
       }
 
   pub first_none : (part : Name × ℕ) → IsTreeOf y c → None ≡ slice_get (near_fibers p part.0 c) part.1 → None ≡ slice_get (named p part.0 (nearest_if y)) part.1
@@ -105,21 +113,21 @@ module _ (p : Program) (y : Option Node) (c : Shape Fiber) (linked : IsLinked c)
       no_old c (slice_get (named p part.0 (nearest_if y)) part.1)
       (subst (λ q. IsOld c q (slice_get (named p part.0 (nearest_if y)) part.1)) (sym at) (first_old p part.0 c linked y tree part.1))
 
-  pub more_walks : (path : Path) (w i j : ℕ) (part : Name × ℕ) (old now new : Ways) → WalksTo p y c path w i old now → w < length path → part ≡ get_or path w part
-      → Some j ≡ slice_get (near_fibers p part.0 (primary_list (list_from c (Some i)))) part.1 → PutsFiber c j new → Keeps now new → WalksTo p y c path (w + 1) j old new
-  more_walks path w i j part old now new walks lt is at puts keeps =
+  pub more_walks : (path : Path) (w i j : ℕ) (part : Name × ℕ) (known old now new : Ways) → WalksTo p y c path w i known old now → w < length path → part ≡ get_or path w part
+      → Some j ≡ slice_get (near_fibers p part.0 (primary_list (list_from c (Some i)))) part.1 → PutsFiber c j known new → Keeps now new → WalksTo p y c path (w + 1) j known old new
+  more_walks path w i j part known old now new walks lt is at puts keeps =
       let those = slice_get (named p part.0 (nearest_in (children_of walks.node))) part.1 in
       let here = subst (λ q. IsOld c q those) (sym at) (next_old p part.0 c linked i walks.node walks.stands part.1) in
       let (x, leads, stands) = is_old c those j here in
       record {
         node = x;
         stands = stands;
-        walked = walked_more p y path w walks.node x part old now new walks.walked lt is leads (record { here = λ m. puts x m stands; others = keeps });
+        walked = walked_more p y path w walks.node x part known old now new walks.walked lt is leads (record { here = λ m. puts x m stands; others = keeps });
       }
 
-  pub more_none : (path : Path) (w i : ℕ) (part : Name × ℕ) (old now : Ways) (walks : WalksTo p y c path w i old now)
+  pub more_none : (path : Path) (w i : ℕ) (part : Name × ℕ) (known old now : Ways) (walks : WalksTo p y c path w i known old now)
       → None ≡ slice_get (near_fibers p part.0 (primary_list (list_from c (Some i)))) part.1
       → None ≡ slice_get (named p part.0 (nearest_in (children_of walks.node))) part.1
-  more_none path w i part old now walks at =
+  more_none path w i part known old now walks at =
       let those = slice_get (named p part.0 (nearest_in (children_of walks.node))) part.1 in
       no_old c those (subst (λ q. IsOld c q those) (sym at) (next_old p part.0 c linked i walks.node walks.stands part.1))

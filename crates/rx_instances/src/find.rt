@@ -15,6 +15,7 @@ ghost use Rattle.rx_model.specs.State.{instance_found};
 ghost use Rattle.rx_node.specs.MarkView.{instance_seen};
 ghost use Rattle.rx_instances.specs.Nearest.{found_as};
 ghost use Rattle.rx_instances.specs.NearFibers.{Counts, IsFoundAt, found_by, instance_at, near_fibers, near_first, told_in};
+ghost use Rattle.rx_ways.specs.Walk.{hinted};
 ghost use Rattle.rx_ways.specs.Ways.{is_way};
 
 use rx_base::Name;
@@ -153,26 +154,30 @@ fn next(
     look_in(checked, tree, old_primary(tree, Some(id)), name, &mut left)
 }
 
-// Puts the instance of a fiber on the ways, from its first commit on.
-fn put(tree: &FiberTree<Fiber>, id: FiberId, sent: &mut Ways)
+// Puts the instance of a fiber on the ways, from its first commit on, unless it is known to be on one.
+fn put(tree: &FiberTree<Fiber>, id: FiberId, known: &Ways, sent: &mut Ways)
     requires { Holds tree.now.current id }
-    ensures here { (x : trees.Node) (n : ℕ) → IsOld tree.now.current (Some id) (Some x) → number_of (mark_of x) ≡ Some n → is_way sent.new n ≡ true }
+    ensures here { (x : trees.Node) (n : ℕ) → IsOld tree.now.current (Some id) (Some x) → number_of (mark_of x) ≡ Some n → hinted known.now sent.new n ≡ true }
     ensures others { (n : ℕ) → is_way sent.old n ≡ true → is_way sent.new n ≡ true }
 {
-    if let Some(found) = told(id, tree.value(id)) {
+    let Some(found) = told(id, tree.value(id)) else {
+        return;
+    };
+    if !known.has(found.number) {
         sent.add(found.number);
     }
 }
 
 /// The instance that a path leads to: from the root, each part names the so-many-th instance of a component right below the
 /// one before, counted from 0 in tree order. It goes over the current fibers, and tells the one of the instance. It puts each
-/// instance on the way, itself too, on the ways that updates were sent along. A fiber that has no instance at or below
-/// it is passed, with all below it (React: `subtreeFlags`). It takes at most time in proportion to what is rendered by the bodies
-/// of the instances on the way, however large the tree is.
+/// instance on the way, itself too, that is not known to be on one, on the ways that updates were sent along. A fiber that has
+/// no instance at or below it is passed, with all below it (React: `subtreeFlags`). It takes at most time in proportion to what
+/// is rendered by the bodies of the instances on the way, however large the tree is.
 pub fn find_instance(
     checked: &Checked,
     tree: &FiberTree<Fiber>,
     path: &[(Name, u64)],
+    known: &Ways,
     sent: &mut Ways,
 ) -> Option<Found>
     requires gathered { IsGathered tree.now.current }
@@ -183,17 +188,17 @@ pub fn find_instance(
     ensures fiber { (y : Option trees.Node) → IsTreeOf y tree.now.current → IfSome result (IsFoundAt checked.now y path.now tree.now.current) }
     ensures grows { (n : ℕ) → is_way sent.old n ≡ true → is_way sent.new n ≡ true }
 
-    // Also if the whole path leads nowhere, each instance is put that its first parts lead to.
+    // Also if the whole path leads nowhere, each instance is put or known that its first parts lead to.
     ensures way { (y : Option trees.Node) (next k : ℕ) (m : Mounted) → IsTreeOf y tree.now.current → IfNumbered y → HasOwnNumbers next y → k < length path.now
-        → instance_found checked.now y (take (suc k) path.now) ≡ Some m → is_way sent.new m.number ≡ true }
+        → instance_found checked.now y (take (suc k) path.now) ≡ Some m → hinted known.now sent.new m.number ≡ true }
 {
     tree.facts();
     let (part, rest) = path.split_first()?;
     let mut id = first(checked, tree, part)?;
-    put(tree, id, sent);
+    put(tree, id, known, sent);
     'walking: for part in rest {
         id = next(checked, tree, id, part)?;
-        put(tree, id, sent);
+        put(tree, id, known, sent);
     }
     told(id, tree.value(id))
 }

@@ -287,8 +287,9 @@ impl Renderer {
         self.checked.may_throw() && self.seen < cut.resolutions
     }
 
-    // The ways that led to all instances that might have queued updates when the last render started: if it had work in each, its own.
-    fn hints(&self) -> &Ways {
+    /// The ways that led to all instances that might have queued updates when the last render started: if it had work in each, its
+    /// own. The next start takes hints from them, and trusts none.
+    pub fn hints(&self) -> &Ways {
         match &self.hints {
             Some(hints) => hints,
             None => &self.ways,

@@ -142,7 +142,7 @@ impl Root {
     }
 
     // The hook that a dispatch is for, and what the dispatch does to it, if its path leads to an instance. Notes the instances
-    // on the path.
+    // on the path that the next render has no hint of.
     fn target(&mut self, dispatch: &Dispatch) -> Option<Sent>
         requires { StandsForSome self.old }
         ensures target { (s : State) → Stands self.old.rendering.program s self.old → CanTake self.old.rendering.program (step.Dispatch dispatch.now)
@@ -156,6 +156,7 @@ impl Root {
             checked,
             self.renderer.fibers(),
             dispatch_path(dispatch),
+            self.renderer.hints(),
             &mut self.sent,
         )?;
         Some(Sent {

@@ -63,7 +63,7 @@ pub struct Root {
     pub(crate) numbers: Numbers,
     // The lanes of the updates since the render in progress began.
     pub(crate) later: Lanes,
-    // The instances to which updates were sent since then, and those above them.
+    // The instances to which updates were sent since then, and those above them, save those that the renderer has hints of.
     pub(crate) sent: Ways,
 }
 

@@ -44,7 +44,7 @@ walking-init c = record {
   grows = c.put.ensures.others;
   walks = λ y tree.
       first_walks c.args.checked.now y c.args.tree.now.current c.facts.ensures.linked c.args.path.now c.in_ok-part.rest.now c.in_ok-part.part.now c.in_ok-id.id
-      c.args.sent.now _ tree c.in_ok-part.ensures.cases.0 c.in_ok-id.ensures.at c.put.ensures.here c.put.ensures.others;
+      c.args.known.now c.args.sent.now _ tree c.in_ok-part.ensures.cases.0 c.in_ok-id.ensures.at c.put.ensures.here c.put.ensures.others;
 }
 
 pub walking-preserved : goal.walking-preserved
@@ -57,7 +57,7 @@ walking-preserved c =
       grows = λ m e. c.put-in-walking.ensures.others m (c.walking.invariant.grows m e);
       walks = λ y tree.
           more_walks c.args.checked.now y c.args.tree.now.current c.facts.ensures.linked path (i + 1) c.walking.id c.in_ok-id-2.id c.part-item.result
-          c.args.sent.now c.walking.sent _ (c.walking.invariant.walks y tree)
+          c.args.known.now c.args.sent.now c.walking.sent _ (c.walking.invariant.walks y tree)
           (is_within path rest c.in_ok-part.part.now i c.in_ok-part.ensures.cases.0 c.walking-test.true)
           (is_next path rest c.in_ok-part.part.now c.part-item.result i c.in_ok-part.ensures.cases.0 c.part-item.is)
           c.in_ok-id-2.ensures.at c.put-in-walking.ensures.here c.put-in-walking.ensures.others;
@@ -70,9 +70,9 @@ returns-in_err-id-2-clause-found c y next tree numbered own =
     let rest : Path = c.in_ok-part.rest.now in
     let i = c.walking.part-index in
     let walks = c.walking.invariant.walks y tree in
-    let none = more_none p y c.args.tree.now.current c.facts.ensures.linked path (i + 1) c.walking.id c.part-item.result c.args.sent.now c.walking.sent walks c.in_err-id-2.ensures.at in
+    let none = more_none p y c.args.tree.now.current c.facts.ensures.linked path (i + 1) c.walking.id c.part-item.result c.args.known.now c.args.sent.now c.walking.sent walks c.in_err-id-2.ensures.at in
     ap (option_map told_in) c.from_residual-in_err-id-2.ensures
-    ∙ sym (walked_nowhere p y path (i + 1) walks.node c.part-item.result c.args.sent.now c.walking.sent walks.walked
+    ∙ sym (walked_nowhere p y path (i + 1) walks.node c.part-item.result c.args.known.now c.args.sent.now c.walking.sent walks.walked
     (is_within path rest c.in_ok-part.part.now i c.in_ok-part.ensures.cases.0 c.walking-test.true)
     (is_next path rest c.in_ok-part.part.now c.part-item.result i c.in_ok-part.ensures.cases.0 c.part-item.is)
     none)
@@ -88,8 +88,8 @@ returns-in_err-id-2-clause-way c y next k m tree numbered own below e =
     let rest : Path = c.in_ok-part.rest.now in
     let i = c.walking.part-index in
     let walks = c.walking.invariant.walks y tree in
-    let none = more_none p y c.args.tree.now.current c.facts.ensures.linked path (i + 1) c.walking.id c.part-item.result c.args.sent.now c.walking.sent walks c.in_err-id-2.ensures.at in
-    nowhere_way p y path (i + 1) walks.node c.part-item.result c.args.sent.now c.walking.sent walks.walked
+    let none = more_none p y c.args.tree.now.current c.facts.ensures.linked path (i + 1) c.walking.id c.part-item.result c.args.known.now c.args.sent.now c.walking.sent walks c.in_err-id-2.ensures.at in
+    nowhere_way p y path (i + 1) walks.node c.part-item.result c.args.known.now c.args.sent.now c.walking.sent walks.walked
     (is_within path rest c.in_ok-part.part.now i c.in_ok-part.ensures.cases.0 c.walking-test.true)
     (is_next path rest c.in_ok-part.part.now c.part-item.result i c.in_ok-part.ensures.cases.0 c.part-item.is)
     none k (found_as m) below
@@ -104,7 +104,7 @@ returns-clause-found c y next tree numbered own =
     let all : length path ≤ i + 1 = is_all path c.in_ok-part.rest.now c.in_ok-part.part.now i c.in_ok-part.ensures.cases.0 c.walking-test.false in
     ap (option_map told_in) c.told.ensures
     ∙ told_fiber c.args.tree.now.current c.walking.id walks.node c.value.result.now walks.stands (c.value.ensures.current c.walking.invariant.held)
-    ∙ sym (led_told p y path ∙ ap (option_and_then told) (walked_whole p y path (i + 1) walks.node c.args.sent.now c.walking.sent walks.walked all))
+    ∙ sym (led_told p y path ∙ ap (option_and_then told) (walked_whole p y path (i + 1) walks.node c.args.known.now c.args.sent.now c.walking.sent walks.walked all))
     ∙ sym (all_led p y next numbered own path)
 
 pub returns-clause-fiber : goal.returns-clause-fiber
@@ -115,7 +115,7 @@ returns-clause-fiber c y tree =
     let walks = c.walking.invariant.walks y tree in
     let all : length path ≤ i + 1 = is_all path c.in_ok-part.rest.now c.in_ok-part.part.now i c.in_ok-part.ensures.cases.0 c.walking-test.false in
     found_at p y path c.args.tree.now.current c.walking.id walks.node c.value.result.now c.told.result
-    (walked_whole p y path (i + 1) walks.node c.args.sent.now c.walking.sent walks.walked all)
+    (walked_whole p y path (i + 1) walks.node c.args.known.now c.args.sent.now c.walking.sent walks.walked all)
     walks.stands (c.value.ensures.current c.walking.invariant.held) c.told.ensures
 
 pub returns-clause-grows : goal.returns-clause-grows

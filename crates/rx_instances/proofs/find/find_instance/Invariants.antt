@@ -11,5 +11,5 @@ abbrev pub invariant-walking : goal.invariant-walking
 invariant-walking l = record {
   held : Holds l.tree.current l.id;
   grows : (n : ℕ) → is_way l.fn.sent n ≡ true → is_way l.sent n ≡ true;
-  walks : (y : Option Node) → IsTreeOf y l.tree.current → WalksTo l.checked y l.tree.current l.path (l.part-index + 1) l.id l.fn.sent l.sent;
+  walks : (y : Option Node) → IsTreeOf y l.tree.current → WalksTo l.checked y l.tree.current l.path (l.part-index + 1) l.id l.known l.fn.sent l.sent;
 }
