@@ -1,9 +1,10 @@
 // What an old node's current fiber and those below it have as a cause to be rendered.
-ghost use Rattle.std.specs.Prelude.{◌≡◌, true, false, Some, IfSome, IsSome, option_and_then};
+ghost use Rattle.std.specs.Prelude.{◌≡◌, true, false, Some, IfSome, IsSome, option_and_then, option_map};
 ghost use Rattle.rx_elem.specs.Trees.{Node, instance_in};
 ghost use Rattle.rx_lists.specs.Shapes.{Holds};
 ghost use Rattle.rx_links.specs.Readers.{list_from};
 ghost use Rattle.rx_meaning.specs.Fresh.{Sight};
+ghost use Rattle.rx_meaning.specs.Settled.{number_of};
 ghost use Rattle.commit_laws.specs.Idle.{IsIdle, IsIdleMark};
 ghost use Rattle.rx_fiber.specs.FiberView.{stage_seen};
 ghost use Rattle.rx_node.specs.MarkView.{mark_seen};
@@ -11,7 +12,8 @@ ghost use Rattle.rx_fiber.specs.Reading.{IsOld};
 ghost use Rattle.rx_fiber.specs.Subtrees.{IsGathered};
 ghost use Rattle.rx_ways.specs.Ways.{Covers, is_way};
 ghost use Rattle.rx_hook_store.specs.Store.{kept_hooks};
-ghost use Rattle.rx_causes.specs.Marks.{begun_mark, keeps_children, mark_at, EachBut, EachFiberBut, SomeFiber, is_passed, is_spared, stands_on_way};
+ghost use Rattle.rx_causes.specs.declared.idle.Turn.TheVariants as turn;
+ghost use Rattle.rx_causes.specs.Marks.{begun_mark, keeps_children, mark_at, EachBut, EachFiberBut, SomeFiber, is_passed};
 ghost use Rattle.rx_causes.specs.Scenes.{GivesHooks, IsSceneOf, KeepsHooks, TellsCalm};
 ghost use Rattle.rx_causes.specs.Hidden.{ForEach, ForEachFiber, instance_at};
 ghost use Rattle.rx_causes.specs.Idle.{HasCause, HasCauseAt, HasCauseIn, LeadsAt, HasNoCause, HasNoCauseAt, KeepsTree, Rests, is_anew};
@@ -52,47 +54,44 @@ fn has_cause(stage: &Stage, scene: &Scene, hooks: &HookStore) -> bool
     }
 }
 
-// Whether the instance of a fiber stands on no way: then there is no cause, neither at the fiber nor below.
-fn is_spared(stage: &Stage, scene: &Scene) -> bool
-    ensures { result ≡ is_spared (is_way scene.now.ways.now) (begun_mark (stage_seen stage.now)) }
+// Whether the instance of a fiber stands on a way, if it has a number.
+fn on_way(stage: &Stage, scene: &Scene) -> Option<bool>
+    ensures { result ≡ option_map (is_way scene.now.ways.now) (option_and_then number_of (begun_mark (stage_seen stage.now))) }
 {
     match stage {
-        Stage::Begun(Mark::Instance(instance)) => match instance.number {
-            Some(number) => !scene.ways.has(number),
-            None => false,
-        },
-        _ => false,
+        Stage::Begun(Mark::Instance(instance)) => Some(scene.ways.has(instance.number?)),
+        _ => None,
     }
 }
 
-// Whether a fiber is passed: neither an instance nor a hidden boundary is at or below it, or its instance stands on no way.
-fn is_passed(fiber: &Fiber, scene: &Scene) -> bool
-    ensures { result ≡ is_passed (is_way scene.now.ways.now) fiber.now }
+// How the walk for a cause goes on at a fiber.
+enum Turn {
+    // The fiber is passed, with all below it.
+    Pass,
+    // It leads to a cause.
+    Cause,
+    // It has no cause itself, and what is below it is looked at.
+    Below,
+}
+
+// Which turn is taken at a fiber. It is passed if neither an instance nor a hidden boundary is at or below it, or its instance stands
+// on no way; and it leads to a cause if its instance stands on a way, or it has one itself.
+fn turn_at(fiber: &Fiber, scene: &Scene, hooks: &HookStore) -> Turn
+    requires { KeepsHooks (kept_hooks hooks.now) (instance_at fiber.now.stage) }
+    ensures passed { result ≡ turn.Pass → is_passed (is_way scene.now.ways.now) fiber.now ≡ true }
+    ensures leads { result ≡ turn.Cause → LeadsAt (is_way scene.now.ways.now) (kept_hooks hooks.now) scene.now.lanes scene.now.cut (begun_mark fiber.now.stage) }
+    ensures none { result ≡ turn.Below → HasNoCauseAt (kept_hooks hooks.now) scene.now.lanes scene.now.cut (begun_mark fiber.now.stage) }
 {
     let below = fiber.subtree();
-    !(below.instances || below.hides) || is_spared(fiber.stage(), scene)
-}
-
-// Whether the instance of a fiber stands on a way: then there is a cause at the fiber or below.
-fn stands_on_way(stage: &Stage, scene: &Scene) -> bool
-    ensures { result ≡ stands_on_way (is_way scene.now.ways.now) (begun_mark (stage_seen stage.now)) }
-{
-    match stage {
-        Stage::Begun(Mark::Instance(instance)) => match instance.number {
-            Some(number) => scene.ways.has(number),
-            None => false,
-        },
-        _ => false,
+    if !(below.instances || below.hides) {
+        return Turn::Pass;
     }
-}
-
-// Whether a fiber leads to a cause: its instance stands on a way, or it has one itself.
-fn leads(stage: &Stage, scene: &Scene, hooks: &HookStore) -> bool
-    requires { KeepsHooks (kept_hooks hooks.now) (instance_at (stage_seen stage.now)) }
-    ensures none { result ≡ false → HasNoCauseAt (kept_hooks hooks.now) scene.now.lanes scene.now.cut (begun_mark (stage_seen stage.now)) }
-    ensures some { result ≡ true → LeadsAt (is_way scene.now.ways.now) (kept_hooks hooks.now) scene.now.lanes scene.now.cut (begun_mark (stage_seen stage.now)) }
-{
-    stands_on_way(stage, scene) || has_cause(stage, scene, hooks)
+    match on_way(fiber.stage(), scene) {
+        Some(false) => Turn::Pass,
+        Some(true) => Turn::Cause,
+        None if has_cause(fiber.stage(), scene, hooks) => Turn::Cause,
+        None => Turn::Below,
+    }
 }
 
 // Whether a fiber in a current list or below leads to a cause. Those are passed of instances that stand on no way, and such as
@@ -113,10 +112,12 @@ fn any_cause(
     let mut next = first;
     'walking: while let Some(id) = next {
         let fiber = tree.value(id);
-        if !is_passed(fiber, scene)
-            && (leads(fiber.stage(), scene, hooks)
-                || any_cause(tree, tree.first_child(id), scene, hooks))
-        {
+        let found = match turn_at(fiber, scene, hooks) {
+            Turn::Pass => false,
+            Turn::Cause => true,
+            Turn::Below => any_cause(tree, tree.first_child(id), scene, hooks),
+        };
+        if found {
             return true;
         }
         next = tree.next_sibling(id);

@@ -1,6 +1,6 @@
 -- Clones of an old list are the fibers of its nodes, each for itself.
-use Rattle.std.specs.Prelude.{◌≡◌, ℕ, ℤ, zero, suc, ◌+◌, ◌-◌, Bool, true, false, List, ◌∷◌, ◌++◌, length, Option, Some, None, IfSome, option_map}
-use Rattle.std.specs.Option.{option_flatten}
+use Rattle.std.specs.Prelude.{◌≡◌, ℕ, ℤ, zero, suc, ◌+◌, ◌-◌, Bool, true, false, List, ◌∷◌, ◌++◌, map, Option, Some, None, IfSome}
+use Rattle.std.specs.Option.{option_flatten, option_map_or}
 use Rattle.std.specs.List.{zip}
 use Rattle.std.proofs.Common.{refl, sym, ap, subst}
 use Rattle.rx_elem.specs.Elements.{Element}
@@ -9,7 +9,7 @@ use Rattle.rx_elem.specs.Compare.{old_nodes}
 use Rattle.rx_elem.specs.Trees.{Node, Forest, element_of, elements_in, places}
 use Rattle.rx_elem.specs.Trees as trees
 use Rattle.rx_elem.proofs.SelfMatch.{NoNull, matches_itself}
-use Rattle.rx_lists.specs.Shapes.{Shape, none, fiber, first, Holds, IsTree}
+use Rattle.rx_lists.specs.Shapes.{Shape, none, fiber, first, Holds}
 use Rattle.rx_lists.specs.Shapes as shapes
 use Rattle.rx_links.specs.Drafts.{Draft, taken, Trees}
 use Rattle.rx_links.specs.Readers.{value_in, list_from, IsLinked}
@@ -19,9 +19,9 @@ use Rattle.rx_fiber.specs.Reading.{AreFor, no_more, gap, next, IsOld, of}
 use Rattle.rx_fiber.specs.Surround.{AreNext}
 use Rattle.rx_fiber.specs.Surround as surround
 use Rattle.rx_fiber.proofs.OldLists.{IsListIn, list_is, rest_listed, list_begins, spread_gap, spread_node, IsListFor}
-use Rattle.rx_fiber.proofs.Matching.{at_first, rest_in, spread_length}
+use Rattle.rx_fiber.proofs.Matching.{at_first, rest_in}
 use Rattle.rx_fiber.proofs.OldTops.{fiber_top, fiber_once}
-use Rattle.rx_children.specs.Children.{IsClone, AreClones, HasRoomFor}
+use Rattle.rx_children.specs.Children.{element_or_null, HasRoomFor}
 use Rattle.rx_children.specs.Nodes.{IsBareBeside}
 use Rattle.rx_children.proofs.Matched.{list_tree}
 use Rattle.rx_children.proofs.Waiting.{AreWaiting}
@@ -29,40 +29,35 @@ use Rattle.rx_children.proofs.Waiting as waiting
 
 -- What an old list tells
 
-clone_behind : (c : Shape Fiber) (k : ℕ) (e : Element) (o : Option ℕ) (es : List Element) (os : List (Option ℕ)) → IsClone c e o
-    → AreClones c es os → AreClones c (filled k elements.null ++ e ∷ es) (filled k None ++ o ∷ os)
-clone_behind c zero e o es os here more zero = here
-clone_behind c zero e o es os here more (suc i) = more i
-clone_behind c (suc k) e o es os here more zero = λ there. absurd (let q : ⊥ = cc in q)
-clone_behind c (suc k) e o es os here more (suc i) = clone_behind c k e o es os here more i
+own_element : (c : Shape Fiber) (id : ℕ) (v : Fiber) (ks rs : Shape Fiber) → IsListIn c (fiber id v ks rs) → element_or_null c (Some id) ≡ v.element
+own_element c id v ks rs l = ap (λ x. option_map_or (λ u. u.element) (value_in x) elements.null) (list_is c id v ks rs l)
 
-clones_from : (c : Shape Fiber) → IsLinked c → (n : ℕ) (s : Shape Fiber) → IsListIn c s
-    → AreClones c (spread elements.null (λ id v. v.element) n s) (spread None (λ id v. Some id) n s)
-clones_from c linked n none l = λ i there. absurd (let q : ⊥ = cc in q)
-clones_from c linked n (fiber id v ks rs) l =
-    by_stage (is_fallback v.stage) refl (λ m. clones_from c linked m rs (rest_listed c id v ks rs linked l))
+elements_behind : (c : Shape Fiber) (k : ℕ) (o : Option ℕ) (os : List (Option ℕ)) (e : Element) (es : List Element) → element_or_null c o ≡ e → map (element_or_null c) os ≡ es
+    → map (element_or_null c) (filled k None ++ o ∷ os) ≡ filled k elements.null ++ e ∷ es
+elements_behind c zero o os e es here more = rw (here, more) refl
+elements_behind c (suc k) o os e es here more = ap (λ l. elements.null ∷ l) (elements_behind c k o os e es here more)
+
+elements_from : (c : Shape Fiber) → IsLinked c → (n : ℕ) (s : Shape Fiber) → IsListIn c s
+    → map (element_or_null c) (spread None (λ id v. Some id) n s) ≡ spread elements.null (λ id v. v.element) n s
+elements_from c linked n none l = refl
+elements_from c linked n (fiber id v ks rs) l =
+    by_stage (is_fallback v.stage) refl (λ m. elements_from c linked m rs (rest_listed c id v ks rs linked l))
   where
-    here : IsClone c v.element (Some id)
-    here there = ap (λ x. option_map (λ u. u.element) (value_in x)) (list_is c id v ks rs l)
-
     by_stage : (b : Bool) → is_fallback v.stage ≡ b
-        → ((m : ℕ) → AreClones c (spread elements.null (λ id v. v.element) m rs) (spread None (λ id v. Some id) m rs))
-        → AreClones c (spread elements.null (λ id v. v.element) n (fiber id v ks rs)) (spread None (λ id v. Some id) n (fiber id v ks rs))
+        → ((m : ℕ) → map (element_or_null c) (spread None (λ id v. Some id) m rs) ≡ spread elements.null (λ id v. v.element) m rs)
+        → map (element_or_null c) (spread None (λ id v. Some id) n (fiber id v ks rs)) ≡ spread elements.null (λ id v. v.element) n (fiber id v ks rs)
     by_stage true f rec = rw f (rec n)
     by_stage false f rec =
         let k : ℕ = v.place - n in
-        rw f (clone_behind c k v.element (Some id) (spread elements.null (λ id v. v.element) (suc (n + k)) rs) (spread None (λ id v. Some id) (suc (n + k)) rs) here (rec (suc (n + k))))
+        rw f (elements_behind c k (Some id) (spread None (λ id v. Some id) (suc (n + k)) rs) v.element (spread elements.null (λ id v. v.element) (suc (n + k)) rs) (own_element c id v ks rs l) (rec (suc (n + k))))
 
 from_listed : (c : Shape Fiber) → IsLinked c → (o : Option ℕ) → IfSome o (Holds c) → IsListIn c (list_from c o)
 from_listed c linked None h = refl
 from_listed c linked (Some i) h = let (v, is, f) = linked.list i h in ap (λ x. list_from c x) (ap first f)
 
 -- The elements of a list that is told are those of its fibers.
-pub list_clones : (c : Shape Fiber) → IsLinked c → (o : Option ℕ) → IfSome o (Holds c) → AreClones c (old_elements (list_from c o)) (old_fibers (list_from c o))
-list_clones c linked o h = clones_from c linked 0 (list_from c o) (from_listed c linked o h)
-
-pub list_lengths : (s : Shape Fiber) → length (old_fibers s) ≡ length (old_elements s)
-list_lengths s = spread_length None elements.null (λ id v. Some id) (λ id v. v.element) 0 s
+pub list_elements : (c : Shape Fiber) → IsLinked c → (o : Option ℕ) → IfSome o (Holds c) → map (element_or_null c) (old_fibers (list_from c o)) ≡ old_elements (list_from c o)
+list_elements c linked o h = elements_from c linked 0 (list_from c o) (from_listed c linked o h)
 
 -- There is room for clones of a list.
 pub room_for_clones : (t : Trees Fiber) (p : ℕ) (first : Option ℕ) (os : List (Option ℕ)) → IsBareBeside t p first → IfSome first (Holds t.current) → IsLinked t.current

@@ -1,11 +1,13 @@
 -- The fibers that are made for a list of children.
-use Rattle.std.specs.Prelude.{◌≡◌, ℕ, suc, true, false, List, [], ◌∷◌, Option, Some, None, slice_get, get_or, drop}
+use Rattle.std.specs.Prelude.{◌≡◌, ℕ, suc, true, false, List, [], ◌∷◌, Option, Some, None, option_and_then, slice_get, drop}
+use Rattle.std.specs.Option.{option_map_or}
 use Rattle.rx_elem.specs.Elements.{Element}
 use Rattle.rx_elem.specs.Elements as elements
 use Rattle.rx_lists.specs.Shapes.{Shape, IsTop}
 use Rattle.rx_lists.specs.Shapes as shapes
 use Rattle.rx_links.specs.Drafts.{Draft, taken, made, Trees, grown, kids_under}
 use Rattle.rx_links.specs.Places.{Around, placed}
+use Rattle.rx_links.specs.Readers.{value_of}
 use Rattle.rx_meaning.specs.Cursor.{is_null}
 use Rattle.rx_fiber.specs.Fibers.{Fiber, waiting}
 use Rattle.rx_fiber.specs.declared.stage.Origin.{Origin}
@@ -26,13 +28,9 @@ pub data AreMade (current : Shape Fiber) (origin : Origin) : (place : ℕ) → L
   next : {n id : ℕ} {v : Fiber} {e : Element} {o : Option ℕ} {es : List Element} {os : List (Option ℕ)} {d : Draft Fiber}
       → is_null e ≡ false → IsMade current origin o v n e → AreMade current origin (suc n) es os d → AreMade current origin n (e ∷ es) (o ∷ os) (made id v o (taken shapes.none) d)
 
--- an element that isn't null is that of the current fiber beside it
-abbrev pub IsClone : Shape Fiber → Element → Option ℕ → Type 0
-IsClone current e o = is_null e ≡ false → IsElementOf current o e
-
--- the same at each place of two lists
-abbrev pub AreClones : Shape Fiber → List Element → List (Option ℕ) → Type 0
-AreClones current es os = (i : ℕ) → IsClone current (get_or es i elements.null) (get_or os i None)
+-- the element of a current fiber, and null where there is none
+abbrev pub element_or_null : Shape Fiber → Option ℕ → Element
+element_or_null current o = option_map_or (λ v. v.element) (option_and_then (value_of current) o) elements.null
 
 -- no two of a list are the same
 abbrev pub AreApart : List (Option ℕ) → Type 0

@@ -1,12 +1,12 @@
 // The fibers of a list of children.
-ghost use Rattle.std.specs.Prelude.{◌≡◌, ◌<◌, ◌^◌, true, false, length, map, slice_get, OnOk, IfOk, IfSome};
+ghost use Rattle.std.specs.Prelude.{◌≡◌, ◌<◌, ◌^◌, false, length, map, slice_get, OnOk, IfOk, IfSome};
 ghost use Rattle.std.specs.Option.{option_and_then, option_flatten};
 ghost use Rattle.rx_lists.specs.Shapes.{Holds, IsTop};
 ghost use Rattle.rx_links.specs.Drafts.{IsOpen, IsUnused, old_kids};
 ghost use Rattle.rx_links.specs.Readers.{list_from};
-ghost use Rattle.rx_fiber.specs.Fibers.{as_cloned, as_matched};
-ghost use Rattle.rx_fiber.specs.OldLists.{matched, old_elements, old_fibers};
-ghost use Rattle.rx_children.specs.Children.{IsClone, AreClones, HasRoomFor, HasAdded, HasMadeFrom};
+ghost use Rattle.rx_fiber.specs.Fibers.{as_matched};
+ghost use Rattle.rx_fiber.specs.OldLists.{matched};
+ghost use Rattle.rx_children.specs.Children.{HasRoomFor, HasAdded, HasMadeFrom};
 ghost use Rattle.rx_children.specs.Nodes.{IsBareBeside};
 
 use rx_elem::Element;
@@ -16,10 +16,10 @@ use rx_links::{FiberId, FiberTree};
 use std::alloc::{AllocError, Global};
 
 // There are few enough children that each has a place.
-fn count_places(children: &[Element]) -> Result<(), AllocError>
-    ensures { OnOk result (length children.now < 2 ^ 32) }
+pub(crate) fn count_places(count: usize) -> Result<(), AllocError>
+    ensures { OnOk result (count < 2 ^ 32) }
 {
-    match u32::try_from(children.len()) {
+    match u32::try_from(count) {
         Ok(_) => Ok(()),
         Err(_) => Err(AllocError),
     }
@@ -61,14 +61,13 @@ fn match_fibers(
     ensures fibers { IfOk result (λ v. v.items ≡ matched (list_from tree.now.current first_old) elements.now) }
 {
     let known = old_children(alloc, tree, first_old)?;
-    count_places(&known.elements)?;
-    count_places(elements)?;
+    count_places(known.elements.len())?;
+    count_places(elements.len())?;
     let matching = match_children(alloc, &known.elements, elements)?;
     fibers_at(alloc, &known.fibers, &matching.places)
 }
 
-// Makes the fiber of one child in front of those that are made, of which so much is known; `null` has none. A cloned one has the
-// element of its old fiber.
+// Makes the fiber of one child in front of those that are made, of which so much is known; `null` has none.
 fn make_one(
     tree: &mut FiberTree<Fiber>,
     at: FiberId,
@@ -80,7 +79,7 @@ fn make_one(
     requires open { IsOpen tree.old.draft at }
     requires old_child { IfSome old (IsTop (old_kids tree.old at)) }
     requires unused { IfSome old (IsUnused tree.old.draft) }
-    requires same { origin.cloned ≡ true → IsClone tree.old.current element.now old }
+    requires anew { origin.cloned ≡ false }
     ensures added { OnOk result (HasAdded origin tree.old tree.new at place element.now old) }
     ensures current { tree.new.current ≡ tree.old.current }
 {
@@ -91,8 +90,7 @@ fn make_one(
     Ok(())
 }
 
-// Makes the fibers of children from the last to the first, each for its old one, of which so much is known; if they are cloned,
-// each with its element.
+// Makes the fibers of children from the last to the first, each for its old one, of which so much is known.
 fn make_all(
     tree: &mut FiberTree<Fiber>,
     at: FiberId,
@@ -103,7 +101,7 @@ fn make_all(
     requires room { HasRoomFor tree.old at olds.now }
     requires few { length elements.now < 2 ^ 32 }
     requires same { length olds.now ≡ length elements.now }
-    requires clones { origin.cloned ≡ true → AreClones tree.old.current elements.now olds.now }
+    requires anew { origin.cloned ≡ false }
     ensures made { OnOk result (HasMadeFrom origin 0 tree.old tree.new at elements.now olds.now) }
     ensures current { tree.new.current ≡ tree.old.current }
 {
@@ -153,34 +151,4 @@ pub fn make_children(
         generation,
     };
     make_all(tree, at, elements, &olds, origin)
-}
-
-/// Makes clones of the children of a current list below a made fiber that has none: each for its old fiber, at its place and with
-/// its element, so that nothing is matched. They are made from the last to the first. `visible` tells whether the old ones
-/// are shown.
-///
-/// # Errors
-///
-/// Only if out of memory, or more children than a list has places. What was made then stays below the fiber.
-pub fn clone_children(
-    alloc: Global,
-    tree: &mut FiberTree<Fiber>,
-    at: FiberId,
-    first_old: Option<FiberId>,
-    visible: bool,
-) -> Result<(), AllocError>
-    requires held { IfSome first_old (Holds tree.old.current) }
-    requires beside { IsBareBeside tree.old at first_old }
-    ensures made { OnOk result (HasMadeFrom (as_cloned visible) 0 tree.old tree.new at (old_elements (list_from tree.old.current first_old)) (old_fibers (list_from tree.old.current first_old))) }
-    ensures current { tree.new.current ≡ tree.old.current }
-{
-    tree.facts();
-    let known = old_children(alloc, tree, first_old)?;
-    count_places(&known.elements)?;
-    let origin = Origin {
-        cloned: true,
-        visible,
-        generation: 0,
-    };
-    make_all(tree, at, &known.elements, &known.fibers, origin)
 }

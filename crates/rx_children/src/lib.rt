@@ -2,12 +2,14 @@
 #![tactic(auto)]
 
 mod children;
+mod clones;
 mod generation;
 mod kind;
 mod node;
 mod origin;
 
-pub use children::{clone_children, make_children};
+pub use children::make_children;
+pub use clones::clone_children;
 pub use generation::{generation_below, own_generation};
 pub use kind::{Parts, begun_children, begun_stage, enter, fallback_list, is_component, parts_of};
 pub use node::{

@@ -12,7 +12,8 @@ ghost use Rattle.rx_fiber.specs.Subtrees.{subtree_at};
 ghost use Rattle.rx_causes.specs.Marks.{keeps_children, mark_at};
 ghost use Rattle.rx_children.specs.Nodes.{IsBareAt, IsBareBeside, HasStage, HasList, HasOpened, HasTaken, begun_from};
 
-use crate::children::{clone_children, make_children};
+use crate::children::make_children;
+use crate::clones::clone_children;
 use rx_base::{Awaits, Int};
 use rx_elem::Element;
 use rx_fiber::{Fiber, Stage, StageChange, Subtree, old_primary};

@@ -10,12 +10,12 @@ use Rattle.rx_fiber.proofs.OldReads.{some_held, kids_held, rest_held}
 use Rattle.rx_causes.specs.Scenes.{KeepsHooks}
 use Rattle.rx_causes.specs.Idle.{HasNoCauseAt, LeadsAt}
 use Rattle.rx_causes.proofs.Free.{passed_here}
-use Rattle.rx_causes.proofs.Walks.{stage_here, child_smaller, each_parts, but_joins, some_joins, behind_smaller}
+use Rattle.rx_causes.proofs.Walks.{child_smaller, each_parts, but_joins, some_joins, behind_smaller}
 use Rattle.rx_causes.proofs.idle.+any_cause.Goals as goal
-use Rattle.rx_causes.proofs.idle.+any_cause.Goals.{else-not-is_passed-via-then-not-is_passed+else-any_cause, then-leads, else-leads, else-not-is_passed-via-else-not-is_passed}
+use Rattle.rx_causes.proofs.idle.+any_cause.Goals.{in-Pass, in-Cause, in-Below}
 
-pub any_cause-requires : goal.any_cause-requires
-any_cause-requires t c =
+pub any_cause-found-requires : goal.any_cause-found-requires
+any_cause-found-requires t c =
     let trees = c.args.tree.now.current in
     let linked = c.facts.ensures.linked in
     let i = c.in-Some.id in
@@ -54,20 +54,14 @@ walking-preserved t c =
       kept = (each_parts trees linked i held v here child refl behind behind_is next c.in-Some.is (λ m. KeepsHooks (kept_hooks c.args.hooks.now) (option_and_then instance_in m)) c.walking.invariant.kept).2;
       none = λ rest.
           c.walking.invariant.none
-          (elim c.else-not-is_passed.branch [
-            | else-not-is_passed-via-then-not-is_passed+else-any_cause w ↦ elim w.if-leads.branch [
-              | then-leads u ↦ absurd (let q : true ≡ false = sym u.if-leads.true ∙ (sym u.value-is ∙ w.if-any_cause.false) in let r : ⊥ = cc in r)
-              | else-leads u ↦
-                  but_joins trees linked i held v here u.first_child.result (u.first_child.ensures.current held) behind behind_is next c.in-Some.is way Free
-                  (inr (
-                    stage_here trees linked i held v here child refl behind behind_is next c.in-Some.is Free _ w.stage.ensures (w.leads.ensures.none u.if-leads.false),
-                    u.any_cause.ensures.none (sym u.value-is ∙ w.if-any_cause.false),
-                  ))
-                  rest
-            ]
-            | else-not-is_passed-via-else-not-is_passed w ↦
+          (elim c.match-turn_at.branch [
+            | in-Pass w ↦
                 but_joins trees linked i held v here child refl behind behind_is next c.in-Some.is way Free
-                (passed_here trees linked c.requires.gathered i held v here child refl behind behind_is way (kept_hooks c.args.hooks.now) c.args.scene.now.lanes c.args.scene.now.cut (sym c.is_passed.ensures ∙ w.if-not-is_passed.false)) rest
+                (passed_here trees linked c.requires.gathered i held v here child refl behind behind_is way (kept_hooks c.args.hooks.now) c.args.scene.now.lanes c.args.scene.now.cut (c.turn_at.ensures.passed w.in-Pass.is)) rest
+            | in-Cause w ↦ absurd (let q : true ≡ false = sym w.found-is ∙ c.if-found.false in let r : ⊥ = cc in r)
+            | in-Below w ↦
+                but_joins trees linked i held v here w.first_child.result (w.first_child.ensures.current held) behind behind_is next c.in-Some.is way Free
+                (inr (c.turn_at.ensures.none w.in-Below.is, w.any_cause-found.ensures.none (sym w.found-is ∙ c.if-found.false))) rest
           ]);
       some = λ rest.
           c.walking.invariant.some
@@ -75,8 +69,8 @@ walking-preserved t c =
       within = omega (arith, c.walking.invariant.within, smaller);
     }
 
-pub returns-then-any_cause-clause-some : goal.returns-then-any_cause-clause-some
-returns-then-any_cause-clause-some t c found =
+pub returns-then-found-clause-some : goal.returns-then-found-clause-some
+returns-then-found-clause-some t c found =
     let trees = c.args.tree.now.current in
     let linked = c.facts.ensures.linked in
     let i = c.in-Some.id in
@@ -87,11 +81,10 @@ returns-then-any_cause-clause-some t c found =
     let behind = first (rest_of trees i) in
     let Leads = LeadsAt (is_way c.args.scene.now.ways.now) (kept_hooks c.args.hooks.now) c.args.scene.now.lanes c.args.scene.now.cut in
     c.walking.invariant.some
-    (elim c.if-leads.branch [
-      | then-leads w ↦
-          some_joins trees linked i held v here child refl behind refl c.walking.next c.in-Some.is Leads
-          (inl (stage_here trees linked i held v here child refl behind refl c.walking.next c.in-Some.is Leads _ c.stage.ensures (c.leads.ensures.some w.if-leads.true)))
-      | else-leads w ↦
+    (elim c.match-turn_at.branch [
+      | in-Pass w ↦ absurd (let q : false ≡ true = sym w.found-is ∙ c.if-found.true in let r : ⊥ = cc in r)
+      | in-Cause w ↦ some_joins trees linked i held v here child refl behind refl c.walking.next c.in-Some.is Leads (inl (c.turn_at.ensures.leads w.in-Cause.is))
+      | in-Below w ↦
           some_joins trees linked i held v here w.first_child.result (w.first_child.ensures.current held) behind refl c.walking.next c.in-Some.is Leads
-          (inr (inl (w.any_cause.ensures.some (sym w.value-is ∙ c.if-any_cause.true))))
+          (inr (inl (w.any_cause-found.ensures.some (sym w.found-is ∙ c.if-found.true))))
     ])

@@ -1,5 +1,5 @@
 use Rattle.std.proofs.Common.{◌-◌, refl, arith}
-use Rattle.rx_children.proofs.Making.{none_yet, place_open, place_top, place_unused, place_clone, place_more}
+use Rattle.rx_children.proofs.Making.{none_yet, place_open, place_top, place_unused, place_more}
 use Rattle.rx_children.proofs.children.make_all.Goals as goal
 
 pub making-init : goal.making-init
@@ -19,12 +19,6 @@ pub make_one-requires-clause-unused : goal.make_one-requires-clause-unused
 make_one-requires-clause-unused c =
     place_unused c.args.origin c.args.tree.now c.making.tree c.args.at c.making.place (c.making.place - 1) c.args.elements.now c.args.olds.now c.requires.room c.making.invariant.made c.place_facts.ensures
     (omega arith) (let e = c.requires.same in let l = c.making.invariant.within in omega arith) c.index-olds-place.result c.index-olds-place.is
-
-pub make_one-requires-clause-same : goal.make_one-requires-clause-same
-make_one-requires-clause-same c cloned =
-    place_clone c.args.origin c.args.tree.now c.making.tree c.args.at c.making.place (c.making.place - 1) c.args.elements.now c.args.olds.now c.requires.room c.making.invariant.made c.place_facts.ensures
-    (omega arith) (let e = c.requires.same in let l = c.making.invariant.within in omega arith) (let l = c.making.invariant.within in omega arith)
-    c.index-elements-place.result c.index-elements-place.is c.index-olds-place.result c.index-olds-place.is (c.requires.clones cloned)
 
 pub making-preserved : goal.making-preserved
 making-preserved c = record {
