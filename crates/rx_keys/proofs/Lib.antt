@@ -4,3 +4,4 @@ mod Finding
 pub mod Matches
 pub mod SameKeys
 mod Moving
+mod ByKey

@@ -1,2 +1,3 @@
 pub mod IdentityView
 pub mod Found
+pub mod Dense

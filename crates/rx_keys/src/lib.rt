@@ -2,6 +2,7 @@
 #![tactic(auto)]
 
 mod aligned;
+mod dense;
 mod identity;
 mod known;
 mod matching;

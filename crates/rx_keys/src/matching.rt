@@ -6,6 +6,7 @@ ghost use Rattle.rx_elem.specs.Identity.{is_reused, moves, old_places, removed_p
 ghost use Rattle.rx_keys.specs.Found.{gone_places, moves_below};
 
 use crate::aligned::{have_same_keys, places_beside};
+use crate::dense::{places_by, table_by_key};
 use crate::known::Known;
 use rx_elem::Element;
 use std::alloc::{AllocError, Global};
@@ -102,7 +103,8 @@ fn removed_of(
 }
 
 /// For each new child the place of the old child that it is, if it is one (react.dev, Preserving and Resetting State): without a
-/// table if the keys are the same, in time in proportion to both lists.
+/// table if the keys are the same, and without hashes if the old keys are small whole numbers, each once; in time in proportion to
+/// both lists.
 ///
 /// # Errors
 ///
@@ -119,8 +121,10 @@ pub fn places_of(
     if have_same_keys(old, new) {
         return places_beside(alloc, old, new);
     }
-    let known = Known::new(alloc, old)?;
-    known.places_of(alloc, new)
+    match table_by_key(alloc, old)? {
+        Some(table) => places_by(alloc, table, old, new),
+        None => Known::new(alloc, old)?.places_of(alloc, new),
+    }
 }
 
 /// Which of the new children is which old one, which of them moved, and which old ones are gone (react.dev, Preserving and
