@@ -1,10 +1,11 @@
 -- Where the host of a number stands.
-use Rattle.std.proofs.Common.{◌≡◌, ℕ, suc, ◌+◌, Bool, true, false, ◌||◌, cond, List, [], ◌∷◌, Option, Some, None, is_some, slice_get, refl, sym, ap, ◌∙◌, arith}
+use Rattle.std.proofs.Common.{◌≡◌, ℕ, suc, ◌+◌, ◌<◌, Bool, true, false, ◌||◌, cond, List, [], ◌∷◌, Option, Some, None, is_some, slice_get, get_or, drop, length, refl, sym, ap, ◌∙◌, arith}
 use Rattle.std.proofs.lemmas.Option.{slice_get_past, slice_get-get_or}
 use Rattle.std.specs.Borrow.{Bor}
 use Rattle.std.specs.List.{find, list_any, position_from}
 use Rattle.std.specs.Option.{option_copied}
 use Rattle.std.specs.Slice.{IsItemAt}
+use Rattle.rx_host_ops.proofs.Lists.{front}
 
 -- the first place at which a test passes has what is found
 pub found_at : {X : Type 0} (t : X → Bool) (k : ℕ) (xs : List X) (i : ℕ) → position_from t k xs ≡ Some i → (j : ℕ) × (i ≡ k + j) × (find t xs ≡ slice_get xs j)
@@ -45,3 +46,10 @@ found_is t xs i e =
 pub lent_is : {X : Type 0} (xs : List X) (i : ℕ) (r : Option (Bor X)) → IsItemAt xs i r → option_copied r ≡ slice_get xs i
 lent_is xs i None h = sym (slice_get_past xs i h.3)
 lent_is xs i (Some x) h = sym (slice_get-get_or xs i x.now h.3.0 ∙ ap Some (sym h.1))
+
+-- the first place from one place earlier on is that one, or as it was
+pub more-places : {X : Type 0} (t : X → Bool) (xs : List X) (k j : ℕ) (x : X) → k ≡ j + 1 → j < length xs → x ≡ get_or xs j x
+    → cond (t x) (Some j) (position_from t k (drop k xs)) ≡ position_from t j (drop j xs)
+more-places t xs k j x h g e =
+    ap (λ i. cond (t x) (Some j) (position_from t i (drop i xs))) h
+    ∙ sym (ap (position_from t j) (front xs j x g e))

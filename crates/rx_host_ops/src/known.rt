@@ -7,25 +7,15 @@ ghost use Rattle.rx_forest.specs.HostOps.{is_placed};
 ghost use Rattle.rx_host_ops.specs.Tables.{KnowsAll};
 
 use crate::host::Host;
+use crate::places::{Places, places_of};
 use std::alloc::{AllocError, Global};
-use std::collections::{HashMap, HashSet};
-
-// Where the host of each number stands in a list; the first one, if there are several.
-fn places_of(alloc: Global, hosts: &[Host]) -> Result<HashMap<u64, usize>, AllocError>
-    ensures { IfOk result (λ places. KnowsAll hosts.now places) }
-{
-    let mut places = HashMap::new(alloc);
-    for place in (0..hosts.len()).rev() {
-        places.insert(hosts[place].number(), place)?;
-    }
-    Ok(places)
-}
+use std::collections::HashSet;
 
 /// Hosts, each found by its number.
 #[derive(Drop)]
 pub(crate) struct Known<'a> {
     hosts: &'a [Host],
-    places: HashMap<u64, usize>,
+    places: Places,
 }
 
 impl<'a> Known<'a> {
@@ -43,8 +33,8 @@ impl<'a> Known<'a> {
         requires { KnowsAll self.now.hosts.now self.now.places }
         ensures { option_copied result ≡ host_numbered self.now.hosts.now number }
     {
-        match self.places.get(&number) {
-            Some(place) => self.hosts.get(*place),
+        match self.places.get(number) {
+            Some(place) => self.hosts.get(place),
             None => None,
         }
     }
@@ -54,7 +44,7 @@ impl<'a> Known<'a> {
         requires { KnowsAll self.now.hosts.now self.now.places }
         ensures { result ≡ has_host self.now.hosts.now number }
     {
-        self.places.contains_key(&number)
+        self.places.get(number).is_some()
     }
 }
 

@@ -6,6 +6,7 @@ mod between;
 mod content;
 mod host;
 mod known;
+mod places;
 mod placing;
 mod reading;
 
