@@ -1,21 +1,30 @@
 // Hosts that are found by their numbers.
-ghost use Rattle.std.specs.Prelude.{◌≡◌, ℕ, IfOk, nat_eq};
+ghost use Rattle.std.specs.Prelude.{◌≡◌, ℕ, IfOk, is_some};
 ghost use Rattle.std.specs.Option.{option_copied};
-ghost use Rattle.std.specs.HashSet.{contains};
 ghost use Rattle.rx_forest.specs.Hosts.{has_host, host_numbered};
 ghost use Rattle.rx_forest.specs.HostOps.{is_placed};
-ghost use Rattle.rx_host_ops.specs.Tables.{KnowsAll};
+ghost use Rattle.rx_host_ops.specs.Tables.{KnowsAll, entry_in};
 
 use crate::host::Host;
-use crate::places::{Places, places_of};
+use crate::table::Table;
 use std::alloc::{AllocError, Global};
-use std::collections::HashSet;
+
+// Where the host of each number stands in a list; the first one, if there are several.
+fn places_of(alloc: Global, hosts: &[Host]) -> Result<Table, AllocError>
+    ensures { IfOk result (λ places. KnowsAll hosts.now places) }
+{
+    let mut places = Table::new(alloc, hosts)?;
+    for place in (0..hosts.len()).rev() {
+        places.put(hosts[place].number(), place as u64)?;
+    }
+    Ok(places)
+}
 
 /// Hosts, each found by its number.
 #[derive(Drop)]
 pub(crate) struct Known<'a> {
     hosts: &'a [Host],
-    places: Places,
+    places: Table,
 }
 
 impl<'a> Known<'a> {
@@ -34,7 +43,7 @@ impl<'a> Known<'a> {
         ensures { option_copied result ≡ host_numbered self.now.hosts.now number }
     {
         match self.places.get(number) {
-            Some(place) => self.hosts.get(place),
+            Some(place) => self.hosts.get(place as usize),
             None => None,
         }
     }
@@ -48,13 +57,17 @@ impl<'a> Known<'a> {
     }
 }
 
-/// The numbers of a list, each found at once.
-pub(crate) fn numbers_of(alloc: Global, numbers: &[u64]) -> Result<HashSet<u64>, AllocError>
-    ensures { IfOk result (λ known. (n : ℕ) → contains nat_eq known n ≡ is_placed numbers.now n) }
+/// Notes each number of a list in a table that is made for the numbers of these hosts.
+pub(crate) fn numbers_of(
+    alloc: Global,
+    hosts: &[Host],
+    numbers: &[u64],
+) -> Result<Table, AllocError>
+    ensures { IfOk result (λ known. (n : ℕ) → is_some (entry_in known n) ≡ is_placed numbers.now n) }
 {
-    let mut known = HashSet::new(alloc);
+    let mut known = Table::new(alloc, hosts)?;
     for number in numbers {
-        known.insert(*number)?;
+        known.put(*number, *number)?;
     }
     Ok(known)
 }

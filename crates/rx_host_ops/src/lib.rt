@@ -6,9 +6,9 @@ mod between;
 mod content;
 mod host;
 mod known;
-mod places;
 mod placing;
 mod reading;
+mod table;
 
 pub use between::{have_same_numbers, ops_between, ops_in_place};
 pub use host::Host;
