@@ -1,10 +1,13 @@
 -- Where the host of a number stands.
-use Rattle.std.proofs.Common.{◌≡◌, ℕ, suc, ◌+◌, Bool, true, false, ◌||◌, cond, List, [], ◌∷◌, Option, Some, None, is_some, slice_get, refl, sym, ap, ◌∙◌, arith}
+use Rattle.std.proofs.Common.{◌≡◌, ℕ, suc, ◌+◌, ◌<◌, Bool, true, false, ◌||◌, cond, List, [], ◌∷◌, Option, Some, None, is_some, slice_get, get_or, drop, take, length, nat_eq, refl, sym, ap, ◌∙◌, arith}
+use Rattle.std.proofs.lemmas.Bool.Decides.{Decides-eqb}
+use Rattle.std.proofs.lemmas.List.Folds.{list_any_more}
 use Rattle.std.proofs.lemmas.Option.{slice_get_past, slice_get-get_or}
 use Rattle.std.specs.Borrow.{Bor}
 use Rattle.std.specs.List.{find, list_any, position_from}
 use Rattle.std.specs.Option.{option_copied}
 use Rattle.std.specs.Slice.{IsItemAt}
+use Rattle.rx_host_ops.proofs.Lists.{front}
 
 -- the first place at which a test passes has what is found
 pub found_at : {X : Type 0} (t : X → Bool) (k : ℕ) (xs : List X) (i : ℕ) → position_from t k xs ≡ Some i → (j : ℕ) × (i ≡ k + j) × (find t xs ≡ slice_get xs j)
@@ -45,3 +48,40 @@ found_is t xs i e =
 pub lent_is : {X : Type 0} (xs : List X) (i : ℕ) (r : Option (Bor X)) → IsItemAt xs i r → option_copied r ≡ slice_get xs i
 lent_is xs i None h = sym (slice_get_past xs i h.3)
 lent_is xs i (Some x) h = sym (slice_get-get_or xs i x.now h.3.0 ∙ ap Some (sym h.1))
+
+-- the first place from one place earlier on is that one, or as it was
+pub more-places : {X : Type 0} (t : X → Bool) (xs : List X) (k j : ℕ) (x : X) → k ≡ j + 1 → j < length xs → x ≡ get_or xs j x
+    → cond (t x) (Some j) (position_from t k (drop k xs)) ≡ position_from t j (drop j xs)
+more-places t xs k j x h g e =
+    ap (λ i. cond (t x) (Some j) (position_from t i (drop i xs))) h
+    ∙ sym (ap (position_from t j) (front xs j x g e))
+
+-- whether numbers are equal is the same the other way round
+nat_eq-sym : (a b : ℕ) (t : Bool) → nat_eq a b ≡ t → nat_eq b a ≡ t
+nat_eq-sym a b true h = (Decides-eqb b a).1 (sym ((Decides-eqb a b).0 h))
+nat_eq-sym a b false h = go (nat_eq b a) refl
+  where
+    go : (t : Bool) → nat_eq b a ≡ t → t ≡ false
+    go true e = let yes : nat_eq a b ≡ true = (Decides-eqb a b).1 (sym ((Decides-eqb b a).0 e)) in absurd (cc)
+    go false e = refl
+
+-- one number more for which something is noted
+pub more-numbers : (numbers : List ℕ) (k n : ℕ) (before after : Option ℕ) → k < length numbers
+    → after ≡ cond (nat_eq (get_or numbers k 0) n) (Some (get_or numbers k 0)) before
+    → is_some before ≡ list_any (nat_eq n) (take k numbers) → is_some after ≡ list_any (nat_eq n) (take (k + 1) numbers)
+more-numbers numbers k n before after h e f = ap is_some e ∙ go (nat_eq x n) refl ∙ sym (list_any_more (nat_eq n) numbers k 0 h)
+  where
+    x : ℕ
+    x = get_or numbers k 0
+
+    or-true : (b : Bool) → (b || true) ≡ true
+    or-true true = refl
+    or-true false = refl
+
+    or-false : (b : Bool) → (b || false) ≡ b
+    or-false true = refl
+    or-false false = refl
+
+    go : (t : Bool) → nat_eq x n ≡ t → is_some (cond t (Some x) before) ≡ (list_any (nat_eq n) (take k numbers) || nat_eq n x)
+    go true e = sym (ap (λ b. list_any (nat_eq n) (take k numbers) || b) (nat_eq-sym x n true e) ∙ or-true (list_any (nat_eq n) (take k numbers)))
+    go false e = f ∙ sym (ap (λ b. list_any (nat_eq n) (take k numbers) || b) (nat_eq-sym x n false e) ∙ or-false (list_any (nat_eq n) (take k numbers)))

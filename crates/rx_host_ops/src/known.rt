@@ -1,22 +1,21 @@
 // Hosts that are found by their numbers.
-ghost use Rattle.std.specs.Prelude.{◌≡◌, ℕ, IfOk, nat_eq};
+ghost use Rattle.std.specs.Prelude.{◌≡◌, ℕ, IfOk, is_some};
 ghost use Rattle.std.specs.Option.{option_copied};
-ghost use Rattle.std.specs.HashSet.{contains};
 ghost use Rattle.rx_forest.specs.Hosts.{has_host, host_numbered};
 ghost use Rattle.rx_forest.specs.HostOps.{is_placed};
-ghost use Rattle.rx_host_ops.specs.Tables.{KnowsAll};
+ghost use Rattle.rx_host_ops.specs.Tables.{KnowsAll, entry_in};
 
 use crate::host::Host;
+use crate::table::Table;
 use std::alloc::{AllocError, Global};
-use std::collections::{HashMap, HashSet};
 
 // Where the host of each number stands in a list; the first one, if there are several.
-fn places_of(alloc: Global, hosts: &[Host]) -> Result<HashMap<u64, usize>, AllocError>
+fn places_of(alloc: Global, hosts: &[Host]) -> Result<Table, AllocError>
     ensures { IfOk result (λ places. KnowsAll hosts.now places) }
 {
-    let mut places = HashMap::new(alloc);
+    let mut places = Table::new(alloc, hosts)?;
     for place in (0..hosts.len()).rev() {
-        places.insert(hosts[place].number(), place)?;
+        places.put(hosts[place].number(), place as u64)?;
     }
     Ok(places)
 }
@@ -25,7 +24,7 @@ fn places_of(alloc: Global, hosts: &[Host]) -> Result<HashMap<u64, usize>, Alloc
 #[derive(Drop)]
 pub(crate) struct Known<'a> {
     hosts: &'a [Host],
-    places: HashMap<u64, usize>,
+    places: Table,
 }
 
 impl<'a> Known<'a> {
@@ -43,8 +42,8 @@ impl<'a> Known<'a> {
         requires { KnowsAll self.now.hosts.now self.now.places }
         ensures { option_copied result ≡ host_numbered self.now.hosts.now number }
     {
-        match self.places.get(&number) {
-            Some(place) => self.hosts.get(*place),
+        match self.places.get(number) {
+            Some(place) => self.hosts.get(place as usize),
             None => None,
         }
     }
@@ -54,17 +53,21 @@ impl<'a> Known<'a> {
         requires { KnowsAll self.now.hosts.now self.now.places }
         ensures { result ≡ has_host self.now.hosts.now number }
     {
-        self.places.contains_key(&number)
+        self.places.get(number).is_some()
     }
 }
 
-/// The numbers of a list, each found at once.
-pub(crate) fn numbers_of(alloc: Global, numbers: &[u64]) -> Result<HashSet<u64>, AllocError>
-    ensures { IfOk result (λ known. (n : ℕ) → contains nat_eq known n ≡ is_placed numbers.now n) }
+/// Notes each number of a list in a table that is made for the numbers of these hosts.
+pub(crate) fn numbers_of(
+    alloc: Global,
+    hosts: &[Host],
+    numbers: &[u64],
+) -> Result<Table, AllocError>
+    ensures { IfOk result (λ known. (n : ℕ) → is_some (entry_in known n) ≡ is_placed numbers.now n) }
 {
-    let mut known = HashSet::new(alloc);
+    let mut known = Table::new(alloc, hosts)?;
     for number in numbers {
-        known.insert(*number)?;
+        known.put(*number, *number)?;
     }
     Ok(known)
 }

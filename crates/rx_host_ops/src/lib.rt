@@ -8,6 +8,7 @@ mod host;
 mod known;
 mod placing;
 mod reading;
+mod table;
 
 pub use between::{have_same_numbers, ops_between, ops_in_place};
 pub use host::Host;

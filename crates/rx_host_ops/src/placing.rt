@@ -1,13 +1,12 @@
 // Where placed hosts go.
 ghost use Rattle.std.specs.Prelude.{◌≡◌, IfOk};
-ghost use Rattle.std.specs.HashSet.{contains};
 ghost use Rattle.rx_forest.specs.HostOps as forest;
 
 use crate::host::Host;
 use crate::known::numbers_of;
+use crate::table::Table;
 use rx_forest::HostOp;
 use std::alloc::{AllocError, Global};
-use std::collections::HashMap;
 
 /// The placements of these hosts: each placed one goes before the next later sibling that is not placed. One pass from the
 /// last host to the first keeps, for each parent, the child that was met last and is not placed.
@@ -18,21 +17,21 @@ pub(crate) fn placements(
 ) -> Result<Vec<HostOp>, AllocError>
     ensures { IfOk result (λ ops. ops.items ≡ forest.placements placed.now hosts.now) }
 {
-    let placed = numbers_of(alloc, placed)?;
-    let mut standing: HashMap<u64, u64> = HashMap::new(alloc);
+    let placed = numbers_of(alloc, hosts, placed)?;
+    let mut standing = Table::new(alloc, hosts)?;
     let mut ops = Vec::new(alloc);
     for place in (0..hosts.len()).rev() {
         let next = &hosts[place];
         let (host, parent) = (next.number(), next.parent());
-        if placed.contains(&host) {
-            let before = standing.get(&parent).copied();
+        if placed.get(host).is_some() {
+            let before = standing.get(parent);
             ops.push(HostOp::Place {
                 host,
                 parent,
                 before,
             })?;
         } else {
-            standing.insert(parent, host)?;
+            standing.put(parent, host)?;
         }
     }
     ops.reverse();
