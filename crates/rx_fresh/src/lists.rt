@@ -4,10 +4,12 @@ ghost use Rattle.rx_elem.specs.Elements.{key_of, kind_of, same_kind};
 ghost use Rattle.rx_elem.specs.Identity.{old_places};
 ghost use Rattle.rx_elem.specs.Trees.{forest, elements_in};
 ghost use Rattle.rx_compare.specs.Matched.{element_at};
+ghost use Rattle.rx_fresh.specs.Texts.{AreSameTexts, IsTextAt, IsTextOf};
 
+use crate::nodes::is_text_node;
 use rx_base::Int;
 use rx_compare::elements_of;
-use rx_elem::Element;
+use rx_elem::{Element, ElementKind};
 use rx_keys::places_of;
 use rx_node::Node;
 use std::alloc::{AllocError, Global};
@@ -28,6 +30,41 @@ fn have_keys_of(old: &[Option<Node>], new: &[Element]) -> bool
     }
     for place in 0..new.len() {
         if key_at(&old[place]) != new[place].key() {
+            return false;
+        }
+    }
+    true
+}
+
+// Whether a node is that of the text that an element is.
+fn is_text_of(node: &Node, element: &Element) -> bool
+    ensures { result ≡ true → IsTextOf node.now element.now }
+{
+    match element.kind() {
+        ElementKind::Text(text) => is_text_node(node, text),
+        _ => false,
+    }
+}
+
+// Whether an old place has the node of the text that an element is.
+fn is_text_at(place: &Option<Node>, element: &Element) -> bool
+    ensures { result ≡ true → IsTextAt place.now element.now }
+{
+    match place {
+        Some(node) => is_text_of(node, element),
+        None => false,
+    }
+}
+
+// Whether each old place has the node of the text that stands there anew.
+pub(crate) fn same_texts(old: &[Option<Node>], elements: &[Element]) -> bool
+    ensures { result ≡ true → AreSameTexts (forest old.now) elements.now }
+{
+    if old.len() != elements.len() {
+        return false;
+    }
+    for place in 0..elements.len() {
+        if !is_text_at(&old[place], &elements[place]) {
             return false;
         }
     }

@@ -77,7 +77,7 @@ fn has_text(element: &Element, text: &Str) -> bool
 }
 
 // Whether an old node is one of this text.
-fn is_text_node(node: &Node, text: &Str) -> bool
+pub(crate) fn is_text_node(node: &Node, text: &Str) -> bool
     ensures { result ≡ true → node.now ≡ text_node text.now (old_host (Some node.now)) }
 {
     let is_bare = node.children().is_empty() && node.fallback().is_empty();

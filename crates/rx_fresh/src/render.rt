@@ -15,7 +15,7 @@ ghost use Rattle.rx_fresh.specs.Seeing.{IsSnapshotOf, GoesOn, KeepsTree, KeepsTr
 
 use crate::body::body_at;
 use crate::instance::{instance_after, number_of, old_instance};
-use crate::lists::{old_places, single};
+use crate::lists::{copy_all, old_places, same_texts, single};
 use crate::nodes::{below_provider, hidden, node_with, old_caught, old_host, over, text_place};
 use crate::place::{Place, Places};
 use crate::roots::{default_contexts, root_element};
@@ -34,7 +34,8 @@ use std::sync::ledger::Ledger;
 // No tree of a program is deeper.
 const DEPTH_LIMIT: u32 = 256;
 
-// A list of children beside the old ones that they are, up to the first that waits or throws.
+// A list of children beside the old ones that they are, up to the first that waits or throws. Where all are the texts that
+// they were, the old ones stay.
 #[cycle(render)]
 fn render_list<L: Ledger>(
     alloc: Global,
@@ -52,6 +53,10 @@ fn render_list<L: Ledger>(
         → places_seen x ≡ render_list (rendered depth s contexts.now) elements.now (forest old.now)) }
     ensures goes { GoesOn shot.now.checked.now shot.now.lanes shot.now.cut (kept_hooks hooks.old) (kept_hooks hooks.new) }
 {
+    if depth > 0 && same_texts(old, elements) {
+        let kept = copy_all(alloc, old)?;
+        return Ok(Places::AllMade(kept));
+    }
     let places = old_places(alloc, old, elements)?;
     let mut nodes = Vec::with_capacity(alloc, elements.len())?;
     for place in 0..elements.len() {

@@ -3,7 +3,7 @@ use Rattle.std.specs.Option.{option_copied}
 use Rattle.std.proofs.lemmas.Result.{IfOk-weaker}
 use Rattle.rx_elem.specs.Elements.{gathered}
 use Rattle.rx_elem.specs.Trees.{children_if, fallback_if, forest, none, of_catcher}
-use Rattle.rx_meaning.specs.Fresh.{old_instance, over, over_boundary, over_catcher, render_list, rendered, waits}
+use Rattle.rx_meaning.specs.Fresh.{all_made, old_instance, over, over_boundary, over_catcher, render_list, rendered, waits}
 use Rattle.rx_eval.specs.Given.{body_seen}
 use Rattle.rx_node.specs.MarkView.{mark_seen}
 use Rattle.rx_hook_store.specs.Store.{kept_hooks}
@@ -11,6 +11,7 @@ use Rattle.rx_fresh.specs.PlaceView.{place_seen, places_seen}
 use Rattle.rx_fresh.proofs.Going.{further, stays}
 use Rattle.rx_fresh.proofs.Listing.{all_done, child_done, drawn_at, listed-gathered, next_place, throws_here, waits_here}
 use Rattle.rx_fresh.proofs.Olds.{gives_at, gives_children, gives_fallback, gives_hooks, gives_trees, keeps_at, keeps_children, keeps_fallback, keeps_trees, kept_if}
+use Rattle.rx_fresh.proofs.SameTexts.{texts_stay}
 use Rattle.rx_fresh.proofs.Shapes.{component_ready, component_throws, component_waits, drawn_body, no_level, one_level, small_wait}
 use Rattle.rx_fresh.proofs.render.+render.Goals as goal
 use Rattle.rx_susp.specs.declared.boundary.BoundaryState.TheVariants.{Shown}
@@ -314,6 +315,12 @@ render_element-returns-in-Catch-clause-place g t c =
 
 pub render_element-returns-in-Null-clause-goes : goal.render_element-returns-in-Null-clause-goes
 render_element-returns-in-Null-clause-goes g t c = stays c.args.shot.now.checked.now c.args.shot.now.lanes c.args.shot.now.cut (kept_hooks c.args.hooks.now)
+
+pub render_list-returns-then-same_texts-clause-places : goal.render_list-returns-then-same_texts-clause-places
+render_list-returns-then-same_texts-clause-places g t c s is gives =
+    let old = c.args.old.now in
+    ap (λ ns. all_made (forest ns)) c.in_ok-kept.ensures
+    ∙ texts_stay s c.args.contexts.now c.args.depth (omega (arith, c.if-depth-gt0.true)) (forest old) c.args.elements.now (c.same_texts.ensures c.if-same_texts.true)
 
 pub render_list-returns-in_err-here-clause-goes : goal.render_list-returns-in_err-here-clause-goes
 render_list-returns-in_err-here-clause-goes g t c = further c.args.shot.now.checked.now c.args.shot.now.lanes c.args.shot.now.cut (kept_hooks c.args.hooks.now) (kept_hooks c.loop-place.hooks) (kept_hooks c.render_place.new.hooks) c.loop-place.invariant.goes c.render_place.ensures.goes
