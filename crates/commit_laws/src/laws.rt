@@ -5,7 +5,7 @@ ghost use Rattle.rx_base.specs.Awaits.{Awaits, resource_limit};
 ghost use Rattle.rx_base.specs.Awaits as awaits;
 ghost use Rattle.rx_base.specs.declared.cut.Cut.{Cut};
 ghost use Rattle.rx_lane.specs.Lanes.{Lanes};
-ghost use Rattle.rx_ast.specs.Syntax.{Program, contexts};
+ghost use Rattle.rx_ast.specs.Syntax.{Program};
 ghost use Rattle.rx_rules.specs.Bounds.{depth_bound, may_throw_in};
 ghost use Rattle.rx_rules.specs.Names.{resources};
 ghost use Rattle.rx_susp.specs.declared.boundary.BoundaryState.TheVariants.{Hidden};

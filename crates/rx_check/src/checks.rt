@@ -2,7 +2,7 @@
 ghost use Rattle.std.specs.Prelude.{◌≡◌, MatchOption, IfOk, Some, None, find, filter_map, is_some};
 ghost use Rattle.std.specs.List.{list_all};
 ghost use Rattle.rx_mentions.specs.Mentions.{given_names};
-ghost use Rattle.rx_rules.specs.Names.{prop_names, has_name, function_named, component_named};
+ghost use Rattle.rx_rules.specs.Names.{prop_names, has_name};
 ghost use Rattle.rx_check.specs.Limits.{limit_of};
 ghost use Rattle.rx_check.specs.Checks.{unless, repeat_in, unknown_among, misfit_in, is_children, fits, element_fits, takes_arguments, is_rooted, measure_in, same_count, count_in, name_length_in, text_length_in};
 ghost use Rattle.rx_rules.specs.Versions.{list_limit};

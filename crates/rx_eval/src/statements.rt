@@ -2,7 +2,7 @@
 ghost use Rattle.std.specs.Prelude.{◌≡◌, ◌+◌, ◌<◌, ◌^◌, [], ◌∷◌, Some, None, IfOk, MatchOption, map, option_copied, slice_index_or, pos};
 ghost use Rattle.rx_base.specs.Values.{Name as Bytes};
 ghost use Rattle.rx_meaning.specs.Expressions.{Env as Values, value_in};
-ghost use Rattle.rx_meaning.specs.Body.{take_one, taken, with_hook, with_read, with_resource, with_throw, with_effect};
+ghost use Rattle.rx_meaning.specs.Body.{take_one, with_hook, with_read, with_resource, with_throw, with_effect};
 ghost use Rattle.rx_eval.specs.declared.statements.Gathered.{Gathered as Parts};
 ghost use Rattle.rx_eval.specs.Seen.{inputs_of};
 ghost use Rattle.rx_eval.specs.Steps.{frame_of, name_in, step_taken};

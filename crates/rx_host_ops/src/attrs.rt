@@ -2,7 +2,6 @@
 ghost use Rattle.std.specs.Prelude.{◌≡◌, ◌≤◌, ◌++◌, IfOk, OnOk, insert, length};
 ghost use Rattle.std.specs.Option.{option_copied};
 ghost use Rattle.std.specs.List.{flat_map};
-ghost use Rattle.rx_base.specs.Values as base;
 ghost use Rattle.rx_elem.specs.declared.attr.Attr as attr;
 ghost use Rattle.rx_forest.specs.Hosts.{by_name, with_attr};
 ghost use Rattle.rx_forest.specs.HostOps.{attr_named, attr_ops, has_attr};

@@ -1,5 +1,5 @@
 // Reading a source to its end, and writing a whole piece.
-ghost use Rattle.std.specs.Prelude.{◌≡◌, ◌+◌, ◌<◌, ◌≤◌, List, ℕ, MatchResult, OnOk, OnErr, IsErrOf};
+ghost use Rattle.std.specs.Prelude.{◌≡◌, ◌+◌, ◌<◌, List, ℕ, MatchResult, OnOk, OnErr, IsErrOf};
 ghost use Rattle.std.specs.Io.KnownBytes.{Consumes, IsAtEnd, Appends};
 ghost use Rattle.rx_io.specs.declared.whole.ReadError.TheVariants.{Failed as ReadFailed, OutOfMemory};
 ghost use Rattle.rx_io.specs.Causes.{Rose, HasCause};

@@ -1,5 +1,5 @@
 // Children whose keys are small whole numbers, found by a table with a place for each number.
-ghost use Rattle.std.specs.Prelude.{◌≡◌, ℕ, ℤ, ◌+◌, ◌<◌, ◌^◌, ◌++◌, ◌∷◌, [], List, Some, None, true, IfOk, length, position, if◌then◌else◌};
+ghost use Rattle.std.specs.Prelude.{◌≡◌, ℤ, ◌+◌, ◌<◌, ◌^◌, ◌++◌, ◌∷◌, [], List, Some, None, true, IfOk, length, position, if◌then◌else◌};
 ghost use Rattle.std.specs.Ordering.{int_eq};
 ghost use Rattle.rx_elem.specs.Elements as elements;
 ghost use Rattle.rx_elem.specs.Elements.{key_of};

@@ -1,5 +1,5 @@
 // The plain machine.
-ghost use Rattle.std.specs.Prelude.{◌≡◌, IfOk};
+ghost use Rattle.std.specs.Prelude.{IfOk};
 ghost use Rattle.rx_model.specs.State.{opening};
 ghost use Rattle.rx_plain.specs.Stands.{StandsFor};
 

@@ -5,7 +5,7 @@ ghost use Rattle.rx_effect.specs.EffectLog.{no_passive, passive_log};
 ghost use Rattle.rx_elem.specs.Trees as trees;
 ghost use Rattle.rx_lines.specs.Lines.{logged};
 ghost use Rattle.rx_meaning.specs.Fresh.{fresh, made};
-ghost use Rattle.rx_model.specs.Committing.{ended, passive_run, sight_of, starting};
+ghost use Rattle.rx_model.specs.Committing.{passive_run, sight_of, starting};
 ghost use Rattle.rx_model.specs.Kept.{IsSet};
 ghost use Rattle.rx_model.specs.Laws.{IsReached};
 ghost use Rattle.rx_model.specs.State.{Progress, State};

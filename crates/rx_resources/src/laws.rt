@@ -3,8 +3,7 @@ ghost use Rattle.std.specs.Prelude.{◌≡◌, ◌++◌, [], ◌∷◌, true, fa
 ghost use Rattle.rx_base.specs.declared.cut.Cut.{Cut};
 ghost use Rattle.rx_lane.specs.Lanes.{Lanes};
 ghost use Rattle.rx_queue.specs.declared.entry.Standing.TheVariants.{Open};
-ghost use Rattle.rx_queue.specs.declared.update.Update.{Update};
-ghost use Rattle.rx_queue.specs.Journal.{Journal, Posted, Target, last_version as last_in, marked, next_version, resolved_now, resource, same_target, version_of};
+ghost use Rattle.rx_queue.specs.Journal.{Journal, Posted, last_version as last_in, marked, next_version, resolved_now, resource, same_target, version_of};
 ghost use Rattle.rx_resources.specs.Kept.{Kept, committed, last_version, opening, refreshed, resolved, value_of, version_at};
 ghost use Rattle.rx_resources.specs.Stands.{AreOpenOrDone, IsKeptOf, asked_by};
 

@@ -1,5 +1,5 @@
 // The steps of a script, one by one.
-ghost use Rattle.std.specs.Prelude.{◌≡◌, ◌≤◌, ℕ, suc, true, OnErr, OnOk, bytes_eq, is_some, position};
+ghost use Rattle.std.specs.Prelude.{◌≡◌, ℕ, suc, true, OnErr, OnOk, bytes_eq, is_some, position};
 ghost use Rattle.rx_rules.specs.Names.{resources};
 ghost use Rattle.rx_lines.specs.Lines.{already, no_instance, with_line};
 ghost use Rattle.rx_model.specs.State.{State};

@@ -1,5 +1,5 @@
 // Turns of rendering.
-ghost use Rattle.std.specs.Prelude.{◌≡◌, ◌≢◌, ◌⊎◌, ℕ, ◌+◌, ◌<◌, ◌≤◌, ◌^◌, true, false, Option, Some, None, option_map, IfOk, IfSome, OnErr, OnOk, length};
+ghost use Rattle.std.specs.Prelude.{◌≡◌, ◌≢◌, ◌⊎◌, ◌+◌, ◌<◌, ◌≤◌, ◌^◌, false, Option, Some, None, IfOk, IfSome, OnErr, OnOk};
 ghost use Rattle.rx_base.specs.Awaits as awaits;
 ghost use Rattle.rx_queue.specs.Pairs.{in_versions};
 ghost use Rattle.rx_ast.specs.Syntax as syntax;
@@ -9,7 +9,6 @@ ghost use Rattle.rx_elem.specs.Numbers.{numbered};
 ghost use Rattle.rx_elem.specs.Compare.{compare_trees};
 ghost use Rattle.rx_effect.specs.EffectLog as effects;
 ghost use Rattle.rx_effect.specs.EffectLog.{passive_of};
-ghost use Rattle.rx_lane.specs.declared.lane.Lane.TheVariants as lane;
 ghost use Rattle.rx_lane.specs.Lanes.{has, lanes_where};
 ghost use Rattle.rx_queue.specs.Journal.{resolved_since, version_of};
 ghost use Rattle.rx_loop.specs.Ends.{MatchDriven};

@@ -1,6 +1,6 @@
 // The moments at which lanes expire.
 ghost use Rattle.std.specs.Prelude.{◌≡◌, not, None, is_none};
-ghost use Rattle.rx_lane.specs.Lanes.{has, lanes_where};
+ghost use Rattle.rx_lane.specs.Lanes.{lanes_where};
 ghost use Rattle.rx_sched.specs.Deadlines.{deadline_from, deadline_of, is_expired, no_deadlines, patience, timed};
 
 use rx_lane::{Lane, Lanes};
