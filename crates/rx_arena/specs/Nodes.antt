@@ -1,5 +1,5 @@
 -- Nodes of fibers under ids, each with a child, a sibling, a return and an alternate link.
-use Rattle.std.specs.Prelude.{◌≡◌, ◌≢◌, ℕ, eqb, Option, Some, None, IsSome, ◌+◌, if◌then◌else◌, option_map, slice_set}
+use Rattle.std.specs.Prelude.{◌≡◌, ◌≢◌, ℕ, eqb, Option, Some, None, IsSome, IfSome, ◌+◌, if◌then◌else◌, option_map, slice_set}
 use Rattle.slab.specs.Slab.{Slab, get, slab_len}
 use Rattle.rx_arena.specs.declared.arena.Node.{Node}
 
@@ -24,6 +24,10 @@ module _ {F : Type 0} where
   -- a node with no links
   abbrev pub new_node : F → Node F
   new_node value = record { value = value; child = None; sibling = None; up = None; alternate = None }
+
+  -- a node with these links and no child
+  abbrev pub linked_node : F → (sibling up alternate : Option ℕ) → Node F
+  linked_node value s u o = record { value = value; child = None; sibling = s; up = u; alternate = o }
 
   -- the node with another value
   abbrev pub with_value : F → Node F → Node F
@@ -69,12 +73,28 @@ module _ {F : Type 0} where
     pub live : slab_len new ≡ slab_len old
     pub capacity : new.capacity ≡ old.capacity
 
+  -- the alternate link of the node that a link leads to was set, and nothing else changed
+  pub record LeadsBack (old new : Slab (Node F)) (link to : Option ℕ) : Type 0 where
+    pub here : IfSome link (λ j. at new j ≡ option_map (with_alternate to) (at old j))
+    pub others : (i : ℕ) → link ≢ Some i → at new i ≡ at old i
+    pub live : slab_len new ≡ slab_len old
+    pub capacity : new.capacity ≡ old.capacity
+
   -- two nodes became alternates of each other, the alternate links that led to them are cut, and nothing else changed
   pub record Pairs (old new : Slab (Node F)) (a b : ℕ) : Type 0 where
     pub first : at new a ≡ option_map (with_alternate (Some b)) (at old a)
     pub second : at new b ≡ option_map (with_alternate (Some a)) (at old b)
     pub others : (other : ℕ) → other ≢ a → other ≢ b → at new other ≡ without b (without a (at old other))
     pub live : slab_len new ≡ slab_len old
+    pub capacity : new.capacity ≡ old.capacity
+
+  -- a new node, it and its alternate, if any, are alternates of each other, and nothing else changed
+  pub record Joins (old new : Slab (Node F)) (id : ℕ) (n : Node F) : Type 0 where
+    pub vacant : at old id ≡ None
+    pub made : at new id ≡ Some n
+    pub other : IfSome n.alternate (λ j. at new j ≡ option_map (with_alternate (Some id)) (at old j))
+    pub others : (i : ℕ) → i ≢ id → n.alternate ≢ Some i → at new i ≡ at old i
+    pub live : slab_len new ≡ slab_len old + 1
     pub capacity : new.capacity ≡ old.capacity
 
   -- the node is gone, the alternate link that led to it is cut, and nothing else changed

@@ -2,7 +2,7 @@
 ghost use Rattle.std.specs.Prelude.{◌≡◌, ◌≢◌, ◌+◌, ◌<◌, ◌^◌, ℕ, Some, None, IfSome, OnOk, Option, option_map};
 ghost use Rattle.std.specs.Borrow.{Lends, sem};
 ghost use Rattle.slab.specs.Slab.{get, slab_len, HasRoomFor};
-ghost use Rattle.rx_arena.specs.Nodes.{at, IsLive, Keeps, new_node, with_child, with_sibling, with_up, with_value, with_alternate, cut_node, alternate_in, Changes, Pairs, Releases, AreMutual};
+ghost use Rattle.rx_arena.specs.Nodes.{at, IsLive, Keeps, new_node, linked_node, with_child, with_sibling, with_up, with_value, with_alternate, cut_node, alternate_in, Changes, Pairs, Joins, LeadsBack, Releases, AreMutual};
 
 use crate::id::FiberId;
 use slab::Slab;
@@ -89,6 +89,43 @@ impl<F> Arena<F> {
             alternate: None,
         });
         FiberId::of(key)
+    }
+
+    /// A new node with these links and no child, for which room was reserved. It and the old one, if any, are alternates: so
+    /// far no alternate link leads there.
+    pub fn alloc_linked(
+        &mut self,
+        value: F,
+        sibling: Option<FiberId>,
+        up: Option<FiberId>,
+        old: Option<FiberId>,
+    ) -> FiberId
+        requires room { HasRoomFor self.old 1 }
+        requires old_live { IfSome old (IsLive self.old) }
+        requires old_alone { IfSome old (λ j. (id : ℕ) → alternate_in (at self.old id) ≢ Some j) }
+        ensures { Joins self.old self.new result (linked_node value sibling up old) }
+    {
+        let back = *(&old);
+        let key = self.nodes.insert_reserved(Node {
+            value,
+            child: None,
+            sibling,
+            up,
+            alternate: old,
+        });
+        let id = FiberId::of(key);
+        lead_back(&mut self.nodes, back, Some(id));
+        id
+    }
+
+    /// A node, to read its value and its links by one look-up. Its alternate is a node, whose own alternate is this one.
+    pub fn node(&self, id: FiberId) -> &Node<F>
+        requires { IsLive self.now id }
+        ensures value { at self.now id ≡ Some result.now }
+        ensures live { IfSome result.now.alternate (IsLive self.now) }
+        ensures mutual { AreMutual self.now }
+    {
+        node_at(&self.nodes, id)
     }
 
     /// The value of a node.
@@ -189,13 +226,47 @@ impl<F> Arena<F> {
         requires { IsLive self.old id }
         ensures { Releases self.old self.new id }
     {
-        clear(&mut self.nodes, id);
-        let _gone = self.nodes.try_remove(id.key());
+        let Node {
+            value: _value,
+            child: _,
+            sibling: _,
+            up: _,
+            alternate,
+        } = self.nodes.remove(id.key());
+        lead_back(&mut self.nodes, alternate, None);
     }
 }
 
 impl<F> Node<F> {
     ghost use Rattle.rx_arena.specs.contracts.arena.Node.{the_row};
+
+    /// The child link.
+    pub fn child(&self) -> Option<FiberId>
+        ensures { result ≡ self.now.child }
+    {
+        self.child
+    }
+
+    /// The sibling link.
+    pub fn sibling(&self) -> Option<FiberId>
+        ensures { result ≡ self.now.sibling }
+    {
+        self.sibling
+    }
+
+    /// The return link.
+    pub fn up(&self) -> Option<FiberId>
+        ensures { result ≡ self.now.up }
+    {
+        self.up
+    }
+
+    /// The alternate.
+    pub fn alternate(&self) -> Option<FiberId>
+        ensures { result ≡ self.now.alternate }
+    {
+        self.alternate
+    }
 
     fn value_mut(&mut self) -> &mut F
         ensures* lends { sem 𝓛 (Lends (the_row F.row) F.row self.entry result (λ v. with_value v self.old)) }
@@ -243,11 +314,19 @@ fn set_up<F>(nodes: &mut Slab<Node<F>>, id: FiberId, to: Option<FiberId>)
 }
 
 fn set_alternate<F>(nodes: &mut Slab<Node<F>>, id: FiberId, to: Option<FiberId>)
-    requires { IsLive nodes.old id }
     ensures { Changes (with_alternate to) nodes.old nodes.new id }
 {
     if let Some(node) = nodes.get_mut(id.key()) {
         node.alternate = to;
+    }
+}
+
+// Sets the alternate link of the node that a link leads to.
+fn lead_back<F>(nodes: &mut Slab<Node<F>>, link: Option<FiberId>, to: Option<FiberId>)
+    ensures { LeadsBack nodes.old nodes.new link to }
+{
+    if let Some(id) = link {
+        set_alternate(nodes, id, to);
     }
 }
 

@@ -3,12 +3,12 @@ use Rattle.std.proofs.Common.{Bool, true, false, cond, ◌≡◌, ◌≢◌, ◌
 use Rattle.rx_arena.specs.Nodes.{at, alternate_in, Changes, with_up}
 use Rattle.rx_arena.specs.declared.arena.Node.{Node}
 use Rattle.rx_lists.specs.Adopted.{flat_at, KidsReturn, SharedReturn, IsBelow, CanAdopt, Relinks, Adopts}
-use Rattle.rx_lists.specs.Freed.{own_link}
+use Rattle.rx_lists.specs.Freed.{own_in, own_link}
 use Rattle.rx_lists.specs.Links.{child_in, child_at, child_under, same_link, is_shared}
 use Rattle.rx_lists.specs.Reads.{Nodes, core, core_of, core_at, up_in, up_at, alternate_at, Reads, Returns, limit, shape_of, IsRead}
 use Rattle.rx_lists.specs.Shapes.{Shape, none, fiber, first, Holds, IsTree, size, IsTop}
 use Rattle.rx_lists.proofs.Frames.{same_or_not, Reads-frame, Reads-live, Returns-frame, child-core, core-live, shape_of-reads}
-use Rattle.rx_lists.proofs.Freeing.{is-read, ReadStep, read-step, read-end}
+use Rattle.rx_lists.proofs.Freeing.{own-here, is-read, ReadStep, read-step, read-end}
 
 module _ {F : Type 0} where
   core-flat : (s : Option (Node F)) → option_map core_of (option_map (with_up None) s) ≡ option_map core_of s
@@ -183,6 +183,13 @@ module _ {F : Type 0} where
     pub adopt-live : IsSome (at a id)
     adopt-live = core-live a id (core ad.value (first ad.kids) (first ad.rest)) ad.here
 
+    -- what its node says is read there
+    pub child-here : (n : Node F) → at a id ≡ Some n → (link : Option ℕ) → link ≡ n.child → IfSome (at a id) (λ n. link ≡ n.child)
+    child-here n here link e = rw here e
+
+    pub sibling-here : (n : Node F) → at a id ≡ Some n → (link : Option ℕ) → link ≡ n.sibling → IfSome (at a id) (λ n. link ≡ n.sibling)
+    sibling-here n here link e = rw here e
+
     adopt_whole : shape_of limit a next ≡ fiber id ad.value ad.kids ad.rest
     adopt_whole = ap (shape_of limit a) is ∙ ad.whole
 
@@ -264,11 +271,11 @@ module _ {F : Type 0} where
         flat_b : (i : ℕ) → flat_at b i ≡ flat_at a i
         flat_b = relinks-flat a b ad.kids id relinked
 
-        pub adopt-live-b : IsSome (at b id)
-        adopt-live-b = core-live b id (core ad.value (first ad.kids) (first ad.rest)) (core-same a b id (flat_b id) ∙ ad.here)
-
         own_is : own_link b id ≡ cond (is_shared a id) None (first ad.kids)
         own_is = rw (shared-same a b flat_b id, child-same a b id (flat_b id), child-core a id ad.value (first ad.kids) (first ad.rest) ad.here) refl
+
+        pub adopt-own : (n : Node F) → at a id ≡ Some n → (link : Option ℕ) → link ≡ own_in a n → link ≡ own_link b id
+        adopt-own n here link e = e ∙ own-here a id n here ∙ rw (shared-same a b flat_b id, child-same a b id (flat_b id)) refl
 
         kids_b : Reads b ad.kids
         kids_b = reads-same a b ad.kids flat_b ad.kids_read
@@ -320,9 +327,6 @@ module _ {F : Type 0} where
           flat_c : (i : ℕ) → flat_at c i ≡ flat_at a i
           flat_c i = adopted.flat i ∙ flat_b i
 
-          pub adopt-live-c : IsSome (at c id)
-          adopt-live-c = core-live c id (core ad.value (first ad.kids) (first ad.rest)) (core-same a c id (flat_c id) ∙ ad.here)
-
           -- outside the children nothing changed
           outside_c : (i : ℕ) → (Holds ad.kids i → ⊥) → at c i ≡ at a i
           outside_c i n =
@@ -331,16 +335,13 @@ module _ {F : Type 0} where
           below_rest : (i : ℕ) → Holds ad.rest i → at c i ≡ at a i
           below_rest i m = outside_c i (λ h. adopt_tree.2 i h m)
 
-          module _ (link : Option ℕ) (link_is : IfSome (at c id) (λ n. link ≡ n.sibling)) where
+          module _ (link : Option ℕ) (link_is : IfSome (at a id) (λ n. link ≡ n.sibling)) where
             rest_link : link ≡ first ad.rest
-            rest_link = by_slot (at c id) refl link_is
+            rest_link = by_slot (at a id) refl link_is
               where
-                here_c : core_at c id ≡ Some (core ad.value (first ad.kids) (first ad.rest))
-                here_c = core-same a c id (flat_c id) ∙ ad.here
-
-                by_slot : (o : Option (Node F)) → at c id ≡ o → IfSome o (λ n. link ≡ n.sibling) → link ≡ first ad.rest
-                by_slot None f x = let q = ap (option_map core_of) f in let e = here_c in cc
-                by_slot (Some n) f x = let q = ap (option_map core_of) f in let e = here_c in cc
+                by_slot : (o : Option (Node F)) → at a id ≡ o → IfSome o (λ n. link ≡ n.sibling) → link ≡ first ad.rest
+                by_slot None f x = let q = ap (option_map core_of) f in let e = ad.here in cc
+                by_slot (Some n) f x = let q = ap (option_map core_of) f in let e = ad.here in cc
 
             rest_c : Reads c ad.rest
             rest_c = reads-same a c ad.rest flat_c ad.rest_read

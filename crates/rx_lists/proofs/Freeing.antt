@@ -2,7 +2,7 @@
 use Rattle.std.proofs.Common.{Bool, true, false, eqb, cond, ◌≡◌, ◌≢◌, ◌<◌, ◌≤◌, ◌+◌, ◌⊎◌, inl, inr, ℕ, refl, sym, ap, ◌∙◌, IsSome, Some, None, Option, IfSome, option_map, eq-eqb, eqb-true, arith}
 use Rattle.rx_arena.specs.Nodes.{at, alternate_in, cut, without, with_alternate, Releases}
 use Rattle.rx_arena.specs.declared.arena.Node.{Node}
-use Rattle.rx_lists.specs.Freed.{own_part, own_list, own_link, IsReady, bare_at, Frees}
+use Rattle.rx_lists.specs.Freed.{own_part, own_list, own_in, own_link, IsReady, bare_at, Frees}
 use Rattle.rx_lists.specs.Links.{child_in, child_at, is_shared}
 use Rattle.rx_lists.specs.Reads.{Nodes, core, core_of, core_at, up_in, up_at, alternate_at, Reads, limit, shape_of, IsRead}
 use Rattle.rx_lists.specs.Shapes.{Shape, none, fiber, first, Holds, IsTree, size}
@@ -177,6 +177,9 @@ module _ {F : Type 0} where
   pub read-end : (a : Nodes F) → shape_of limit a None ≡ none
   read-end a = shape_of-reads limit a none tt (omega arith)
 
+  pub own-here : (a : Nodes F) (id : ℕ) (n : Node F) → at a id ≡ Some n → own_in a n ≡ own_link a id
+  own-here a id n e = rw e refl
+
   -- a step of the release: the fiber, its own children, and then the rest
   module _ (a : Nodes F) (next : Option ℕ) (id : ℕ) (is : next ≡ Some id) (ready : IsReady a next) where
     pub st : ReadStep a id
@@ -184,6 +187,13 @@ module _ {F : Type 0} where
 
     pub step-live : IsSome (at a id)
     step-live = core-live a id (core st.value (first st.kids) (first st.rest)) st.here
+
+    -- what its node says is read there
+    pub step-own : (n : Node F) → at a id ≡ Some n → (link : Option ℕ) → link ≡ own_in a n → link ≡ own_link a id
+    step-own n here link e = e ∙ own-here a id n here
+
+    pub step-rest : (n : Node F) → at a id ≡ Some n → (link : Option ℕ) → link ≡ n.sibling → IfSome (at a id) (λ n. link ≡ n.sibling)
+    step-rest n here link e = rw here e
 
     whole : shape_of limit a next ≡ fiber id st.value st.kids st.rest
     whole = ap (shape_of limit a) is ∙ st.whole

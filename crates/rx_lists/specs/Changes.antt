@@ -18,13 +18,6 @@ module _ {F : Type 0} where
   abbrev pub IsAlone : Nodes F → ℕ → Type 0
   IsAlone a j = (i : ℕ) → alternate_at a i ≢ Some j
 
-  -- the node and the old one, if any, are alternates
-  pub record PairsWith (old new : Nodes F) (id : ℕ) (o : Option ℕ) : Type 0 where
-    pub own : at new id ≡ option_map (with_alternate o) (at old id)
-    pub other : IfSome o (λ j. at new j ≡ option_map (with_alternate (Some id)) (at old j))
-    pub others : (i : ℕ) → i ≢ id → o ≢ Some i → at new i ≡ at old i
-    pub live : slab_len new ≡ slab_len old
-
   -- a new node, an alternate of the old one, is the first child of another
   pub record Grows (old new : Nodes F) (parent id : ℕ) (value : F) (o : Option ℕ) : Type 0 where
     pub vacant : at old id ≡ None

@@ -3,7 +3,7 @@ use Rattle.std.specs.Prelude.{◌≡◌, ℕ, ◌≤◌, Option, Some, None, if�
 use Rattle.slab.specs.Slab.{slab_len}
 use Rattle.rx_arena.specs.Nodes.{at, with_alternate}
 use Rattle.rx_arena.specs.declared.arena.Node.{Node}
-use Rattle.rx_lists.specs.Links.{child_at, is_shared}
+use Rattle.rx_lists.specs.Links.{child_at, child_under, same_link, is_shared}
 use Rattle.rx_lists.specs.Reads.{Nodes, alternate_at, limit, shape_of, IsRead}
 use Rattle.rx_lists.specs.Shapes.{Shape, none, fiber, Holds, IsTree}
 
@@ -16,6 +16,10 @@ module _ {F : Type 0} where
   -- the same of the list from a link
   abbrev pub own_list : Nodes F → Option ℕ → Shape F
   own_list a link = own_part a (shape_of limit a link)
+
+  -- the link of this node to children that are not also those of its alternate
+  abbrev pub own_in : Nodes F → Node F → Option ℕ
+  own_in a n = if same_link n.child (child_under a n.alternate) then None else n.child
 
   -- the link to the children that are the node's alone
   abbrev pub own_link : Nodes F → ℕ → Option ℕ

@@ -15,7 +15,8 @@ pub fn old_children<F>(nodes: &Arena<F>, id: FiberId) -> Option<FiberId>
     child_of_link(nodes, old)
 }
 
-fn child_of_link<F>(nodes: &Arena<F>, link: Option<FiberId>) -> Option<FiberId>
+/// The first child of the node that a link leads to, if it has one.
+pub(crate) fn child_of_link<F>(nodes: &Arena<F>, link: Option<FiberId>) -> Option<FiberId>
     requires { IfSome link (IsLive nodes.now) }
     ensures { result ≡ child_under nodes.now link }
 {

@@ -1,26 +1,10 @@
 // New nodes, each the alternate of an old one or of none.
-ghost use Rattle.std.specs.Prelude.{◌≡◌, ◌≢◌, None, Some, IfSome, Option};
+ghost use Rattle.std.specs.Prelude.{◌≢◌, Some, IfSome, Option};
 ghost use Rattle.slab.specs.Slab.{HasRoomFor};
 ghost use Rattle.rx_arena.specs.Nodes.{IsLive};
-ghost use Rattle.rx_lists.specs.Reads.{alternate_at};
-ghost use Rattle.rx_lists.specs.Changes.{IsAlone, PairsWith, Grows, Inserts, Adds};
+ghost use Rattle.rx_lists.specs.Changes.{IsAlone, Grows, Inserts, Adds};
 
 use rx_arena::{Arena, FiberId};
-
-// Makes a node and the old one, if any, alternates.
-fn pair_with<F>(nodes: &mut Arena<F>, id: FiberId, old: Option<FiberId>)
-    requires live { IsLive nodes.old id }
-    requires bare { alternate_at nodes.old id ≡ None }
-    requires alone { IsAlone nodes.old id }
-    requires old_live { IfSome old (IsLive nodes.old) }
-    requires old_alone { IfSome old (IsAlone nodes.old) }
-    requires differ { old ≢ Some id }
-    ensures { PairsWith nodes.old nodes.new id old }
-{
-    if let Some(old) = old {
-        nodes.pair(id, old);
-    }
-}
 
 /// A node that stands alone, the alternate of the old one.
 pub fn make_root<F>(nodes: &mut Arena<F>, old: Option<FiberId>, value: F) -> FiberId
@@ -29,9 +13,7 @@ pub fn make_root<F>(nodes: &mut Arena<F>, old: Option<FiberId>, value: F) -> Fib
     requires old_alone { IfSome old (IsAlone nodes.old) }
     ensures { Adds nodes.old nodes.new result value old }
 {
-    let id = nodes.alloc(value);
-    pair_with(nodes, id, old);
-    id
+    nodes.alloc_linked(value, None, None, old)
 }
 
 /// A first child of a node, the alternate of the old one.
@@ -48,11 +30,8 @@ pub fn make_child<F>(
     requires differ { old ≢ Some parent }
     ensures { Grows nodes.old nodes.new parent result value old }
 {
-    let id = nodes.alloc(value);
-    pair_with(nodes, id, old);
     let first = nodes.child_of(parent);
-    nodes.link_sibling(id, first);
-    nodes.link_return(id, Some(parent));
+    let id = nodes.alloc_linked(value, first, Some(parent), old);
     nodes.link_child(parent, Some(id));
     id
 }
@@ -71,12 +50,10 @@ pub fn make_behind<F>(
     requires differ { old ≢ Some sibling }
     ensures { Inserts nodes.old nodes.new sibling result value old }
 {
-    let id = nodes.alloc(value);
-    pair_with(nodes, id, old);
-    let rest = nodes.sibling_of(sibling);
-    let parent = nodes.return_of(sibling);
-    nodes.link_sibling(id, rest);
-    nodes.link_return(id, parent);
+    let node = nodes.node(sibling);
+    let rest = node.sibling();
+    let parent = node.up();
+    let id = nodes.alloc_linked(value, rest, parent, old);
     nodes.link_sibling(sibling, Some(id));
     id
 }

@@ -4,7 +4,7 @@ ghost use Rattle.rx_lists.specs.Reads.{limit, shape_of, IsRead};
 ghost use Rattle.rx_lists.specs.Shapes.{IsTree};
 ghost use Rattle.rx_lists.specs.Adopted.{CanAdopt, Relinks, Adopts};
 
-use crate::release::own_children;
+use crate::release::own_of;
 use rx_arena::{Arena, FiberId};
 
 // Lets the return links of a list lead to a fiber.
@@ -27,10 +27,12 @@ pub fn adopt<F>(nodes: &mut Arena<F>, link: Option<FiberId>)
 {
     let mut next = link;
     while let Some(id) = next {
-        let kids = nodes.child_of(id);
+        let node = nodes.node(id);
+        let rest = node.sibling();
+        let kids = node.child();
+        let own = own_of(nodes, node);
         set_returns(nodes, kids, id);
-        let own = own_children(nodes, id);
         adopt(nodes, own);
-        next = nodes.sibling_of(id);
+        next = rest;
     }
 }
