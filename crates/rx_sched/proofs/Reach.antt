@@ -74,7 +74,7 @@ sound (suc n) links pending lanes l e = from_round links pending lanes l (sound 
 abbrev Closed : Links → Lanes → Lanes → Type 0
 Closed links pending lanes = (l : Lane) → has (one_link_on links pending lanes) l ≡ has lanes l
 
-grows : (links : Links) (pending lanes : Lanes) (l : Lane) → has lanes l ≡ true → has (one_link_on links pending lanes) l ≡ true
+pub grows : (links : Links) (pending lanes : Lanes) (l : Lane) → has lanes l ≡ true → has (one_link_on links pending lanes) l ≡ true
 grows links pending lanes l e = has-one_link_on links pending lanes l ∙ or-left _ _ e
 
 list_any-agree : (p q : Lane → Bool) (ls : List Lane) → ((l : Lane) → p l ≡ q l) → list_any p ls ≡ list_any q ls
@@ -82,7 +82,7 @@ list_any-agree p q [] h = refl
 list_any-agree p q (l ∷ ls) h = let here = h l in let rest = list_any-agree p q ls h in rw (here, rest) refl
 
 -- a round depends on the members alone
-round_agree : (links : Links) (pending a b : Lanes) → ((l : Lane) → has a l ≡ has b l) → one_link_on links pending a ≡ one_link_on links pending b
+pub round_agree : (links : Links) (pending a b : Lanes) → ((l : Lane) → has a l ≡ has b l) → one_link_on links pending a ≡ one_link_on links pending b
 unfolding one_link_on
 round_agree links pending a b h = lanes_agree (on links pending a) (on links pending b) (λ l.
     ap (λ x. x || (has pending l && is_linked links a l)) (h l)
@@ -97,7 +97,7 @@ closed_on zero links pending lanes h = h
 closed_on (suc n) links pending lanes h = closed_on n links pending (one_link_on links pending lanes) (closed_round links pending lanes h)
 
 -- how many lanes a set has
-abbrev size : Lanes → ℕ
+abbrev pub size : Lanes → ℕ
 size lanes = length (filter (has lanes) all_lanes)
 
 length-filter-le : (p q : Lane → Bool) (ls : List Lane) → ((l : Lane) → p l ≡ true → q l ≡ true) → length (filter p ls) ≤ length (filter q ls)
@@ -111,7 +111,7 @@ length-filter-le p q (l ∷ ls) h = go (p l) refl (q l) refl (length-filter-le p
     go false e false f rest = rw (e, f) rest
 
 -- a wider test passes more, or the same
-same_or_more : (p q : Lane → Bool) (ls : List Lane) → ((l : Lane) → p l ≡ true → q l ≡ true)
+pub same_or_more : (p q : Lane → Bool) (ls : List Lane) → ((l : Lane) → p l ≡ true → q l ≡ true)
     → ((l : Lane) → has ls l ≡ true → q l ≡ p l) ⊎ (length (filter p ls) < length (filter q ls))
 same_or_more p q [] h = inl (λ l e. absurd (cc))
 same_or_more p q (m ∷ ls) h = go (p m) refl (q m) refl (same_or_more p q ls h) (length-filter-le p q ls h)

@@ -71,10 +71,10 @@ impl Links {
         ensures { result ≡ lanes_where (is_linked self.now lanes) }
     {
         let mut found = Lanes::none();
-        for lane in Lane::ALL {
-            if lanes.has(lane) {
-                found = found.union(self.of(lane));
-            }
+        let mut left = lanes;
+        while let Some(lane) = left.highest() {
+            found = found.union(self.of(lane));
+            left = left.minus(Lanes::one(lane));
         }
         found
     }
@@ -92,7 +92,11 @@ impl Links {
     {
         let mut found = lanes;
         for _round in 0..20u32 {
-            found = self.one_link_on(pending, found);
+            let more = self.one_link_on(pending, found);
+            if more.within(found) {
+                return more;
+            }
+            found = more;
         }
         found
     }
