@@ -6,7 +6,7 @@ use Rattle.rx_elem.specs.Trees.{Mark, Node, Forest, forest, element_of, elements
 use Rattle.rx_compare.specs.Matched.{element_at}
 use Rattle.rx_compare.proofs.Places.{map-element_at}
 use Rattle.rx_fiber.specs.OldLists.{filled}
-use Rattle.rx_lists.specs.Shapes.{Shape, first, size, IsTop}
+use Rattle.rx_lists.specs.Shapes.{Shape, none, first, size, IsTop}
 use Rattle.rx_links.specs.Drafts.{Draft, taken, made, Trees, entry, Makes, Fits, Follows, IsOldKids, old_kids, grafted}
 use Rattle.rx_links.specs.Places.{Around, below, after, placed}
 use Rattle.rx_links.specs.Readers.{IsLinked, made_kids_of, made_rest_of}
@@ -16,6 +16,7 @@ use Rattle.rx_read.specs.Lists.{list_of}
 use Rattle.rx_read.specs.Numbering.{made_entry}
 use Rattle.rx_read.specs.Places.{mark_in, node_from, own_places, places_in, fallback_behind, first_places, node_if, first_node}
 use Rattle.rx_read.proofs.Links.{Linked, list_of_made}
+use Rattle.rx_read.proofs.Listing.{list_step}
 use Rattle.rx_beside.specs.Children.{IsChildOf, IsNodeOf}
 use Rattle.rx_beside.proofs.Standing.{beside_at, top_is}
 
@@ -76,6 +77,10 @@ child_here t fits p i h =
     by_old None k q = tt
     by_old (Some j) k q = top_is (old_kids t p) j k q
 
+pub no_some : (o : Option ℕ) → is_some o ≡ false → o ≡ None
+no_some None e = refl
+no_some (Some i) e = cc
+
 -- Fibers gathered by their places
 
 module _ (t : Trees Fiber) where
@@ -119,6 +124,25 @@ module _ (t : Trees Fiber) where
         let q = l.list in
         let (x, is, places) = by_mark (mark_in v.stage) n v (forest (places_in 0 (list_of t c))) (fallback_behind (list_of t s)) e in
         (x, ap first_node q ∙ is, ap (first_places n) q ∙ places)
+
+    -- the only one of a list, at the first place
+    pub alone : list_of t s ≡ none → v.place ≡ 0 → is_some (mark_in v.stage) ≡ true
+        → (x : Node) × (node_of (Some i) ≡ Some x) × (places_in 0 (list_of t (Some i)) ≡ node_of (Some i) ∷ [])
+    alone last at begun =
+        let (x, is, places) = stands_for 0 begun in
+        let own = first_places 0 (list_of t (Some i)) in
+        let all = places_in 0 (list_of t (Some i)) in
+        let zero : v.place - 0 ≡ 0 = omega (arith, at) in
+        let walked : own ++ places_in (length own) (list_of t s) ≡ all = list_step t (Some i) i v c s l [] own all refl refl refl in (
+          x,
+          is,
+          sym walked
+              ∙ ap (λ d. own ++ places_in (length own) d) last
+              ∙ append-nil own
+              ∙ places
+              ∙ ap (λ n. filled n None ++ Some x ∷ []) zero
+              ∙ ap (λ o. o ∷ []) (sym is),
+        )
 
     module _ (xs ys zs : List (Option ℕ)) (begun : is_some (mark_in v.stage) ≡ true) (filled_up : ys ≡ xs ++ filled (v.place - length xs) None) (pushed : zs ≡ ys ++ Some i ∷ []) where
       -- one that does stands at its place

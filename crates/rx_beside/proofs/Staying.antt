@@ -161,3 +161,21 @@ module _ (d : Bool) (os : List (Option Node)) (f : Option ℕ → Option Node) (
     so_far ∙ ap (map f) (take_all i fs l),
     all_stay d os ts _ _ (subst (λ z. Stays d z ts (old_list z b) (new_list ts b)) (take_all i os (omega (arith, even))) s),
   )
+
+-- The list of an only child
+
+pub only_at : (os : List (Option Node)) (n : Node) → length os ≡ 1 → node_at (forest os) 0 ≡ Some n → os ≡ Some n ∷ []
+only_at [] n l e = absurd (omega arith)
+only_at (None ∷ []) n l e = let q : None ≡ Some n = sym (node_at-list (None ∷ []) 0) ∙ e in cc
+only_at (Some x ∷ []) n l e = ap (λ o. o ∷ []) (sym (node_at-list (Some x ∷ []) 0) ∙ e)
+only_at (x ∷ y ∷ os) n l e = absurd (omega arith)
+
+-- it stands where the old one did, which was an only child too
+pub only_stays : (d : Bool) (os ts : List (Option Node)) (b : Option PrunedLists) (o n : Node) (c : Option PrunedNodes) (l : Bool) → os ≡ Some o ∷ [] → ts ≡ Some n ∷ []
+    → old_list (Some o ∷ []) b ≡ old_stay l (Some o) c → new_list ts b ≡ new_stay l (Some n) c → AreInPlace (forest (Some o ∷ [])) (forest (Some n ∷ []))
+    → IsSlot d (Some o) (Some n) (old_slot c) (new_slot (Some n) c) → (l ≡ true → IsLeft d (Some o) (Some n))
+    → AreLists d (forest os) (forest ts) (forest (old_list os b)) (forest (new_list ts b))
+only_stays d os ts b o n c l os_is et ep eq h slot out =
+    let one = one_stays d (Some o) (Some n) c l h slot out in
+    let now = all_stay d (Some o ∷ []) (Some n ∷ []) _ _ (one_more d [] [] [] [] (Some o) (Some n) _ _ (none_stays d) h one) in
+    subst (λ z. AreLists d (forest z) (forest ts) (forest (old_list z b)) (forest (new_list ts b))) (sym os_is) (rw (ep, eq, et) now)

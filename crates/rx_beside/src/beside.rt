@@ -13,7 +13,8 @@ ghost use Rattle.rx_pruned.specs.Pruned.{Pruned};
 ghost use Rattle.rx_beside.specs.Alike.{AllTakeAlike};
 ghost use Rattle.rx_beside.specs.Parts.{old_part, new_part};
 
-use crate::pairs::{Pair, bare_pair, read_pair, read_whole};
+use crate::lists::Pair;
+use crate::pairs::{bare_pair, read_pair, read_whole};
 use rx_fiber::Fiber;
 use rx_links::{FiberId, FiberTree};
 use rx_node::Node;

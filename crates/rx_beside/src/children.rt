@@ -1,5 +1,5 @@
 // The made children of a fiber, place by place.
-ghost use Rattle.std.specs.Prelude.{◌≡◌, ℕ, ◌-◌, ◌++◌, All, None, Some, IfSome, IfOk, OnOk, is_some, length, map};
+ghost use Rattle.std.specs.Prelude.{◌≡◌, ℕ, ◌-◌, ◌++◌, ◌∷◌, [], All, None, Some, IfSome, IfOk, OnOk, is_some, length, map};
 ghost use Rattle.rx_links.specs.Drafts.{Makes};
 ghost use Rattle.rx_links.specs.Readers.{IsIn, made_kids_of};
 ghost use Rattle.rx_fiber.specs.FiberView.{stage_seen};
@@ -48,6 +48,27 @@ fn add_child(
         fibers.push(Some(id))?;
     }
     Ok(())
+}
+
+// The only one of the made children of a made fiber, if it stands for a node at the first place.
+pub(crate) fn only_child(
+    tree: &FiberTree<Fiber>,
+    id: FiberId,
+    first: Option<FiberId>,
+) -> Option<FiberId>
+    requires made { Makes tree.now.draft id }
+    requires first { first ≡ made_entry (made_kids_of tree.now.draft id) }
+    ensures places { IfSome result (λ c. places_in 0 (list_of tree.now first) ≡ first_node (list_of tree.now (Some c)) ∷ []) }
+    ensures child { IfSome result (IsNodeOf tree.now id) }
+{
+    tree.facts();
+    let child = first?;
+    let fiber = tree.value(child);
+    if fiber.place() == 0 && is_begun(fiber.stage()) && tree.next_sibling(child).is_none() {
+        Some(child)
+    } else {
+        None
+    }
 }
 
 // The made children of a made fiber that stand for nodes, place by place; none if its children were taken over. There is room

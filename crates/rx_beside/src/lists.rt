@@ -39,6 +39,15 @@ pub(crate) struct Lists {
     pub pruned: Option<PrunedLists>,
 }
 
+// A node of the finished tree; and, if something is left out, the old node and this one without it. Or it is the old node,
+// which can be left out itself.
+#[derive(Drop)]
+pub(crate) struct Pair {
+    pub tree: Node,
+    pub pruned: Option<PrunedNodes>,
+    pub left: bool,
+}
+
 // What stands at a place of the new list; and, if something there is left out, the old node and this one without it. Or it is
 // the old node, which can be left out itself.
 #[derive(Drop)]
@@ -234,6 +243,46 @@ pub(crate) fn add_in_place(
     }
 }
 
+// A list of one node.
+fn one_node(alloc: Global, node: Node) -> Result<Vec<Option<Node>>, AllocError>
+    ensures { IfOk result (λ v. v.items ≡ Some node ∷ []) }
+{
+    let mut nodes = Vec::with_capacity(alloc, 1)?;
+    nodes.push(Some(node))?;
+    Ok(nodes)
+}
+
+// The lists of an only child that stands where the old one did, which was an only child too.
+pub(crate) fn only_lists(alloc: Global, pair: Pair) -> Result<Lists, AllocError>
+    ensures tree { IfOk result (λ l. l.tree.items ≡ Some pair.tree ∷ []) }
+    ensures pruned_old { (o : trees.Node) → IfOk result (λ l. old_list (Some o ∷ []) l.pruned ≡ old_stay pair.left (Some o) pair.pruned) }
+    ensures pruned_new { IfOk result (λ l. new_list l.tree.items l.pruned ≡ new_stay pair.left (Some pair.tree) pair.pruned) }
+{
+    let Pair { tree, pruned, left } = pair;
+    let tree = one_node(alloc, tree)?;
+    if left {
+        let none = PrunedLists {
+            old: Vec::new(alloc),
+            new: Vec::new(alloc),
+        };
+        return Ok(Lists {
+            tree,
+            pruned: Some(none),
+        });
+    }
+    let Some(nodes) = pruned else {
+        return Ok(Lists { tree, pruned: None });
+    };
+    let lists = PrunedLists {
+        old: one_node(alloc, nodes.old)?,
+        new: one_node(alloc, nodes.new)?,
+    };
+    Ok(Lists {
+        tree,
+        pruned: Some(lists),
+    })
+}
+
 // The element that stands at a place of a made list.
 fn element_of(
     alloc: Global,
@@ -278,7 +327,7 @@ fn is_same_child(old: &Element, new: &Element) -> bool
 }
 
 // Whether a made fiber is the old node at its place.
-fn is_same(tree: &FiberTree<Fiber>, old: &Node, id: FiberId) -> bool
+pub(crate) fn is_same(tree: &FiberTree<Fiber>, old: &Node, id: FiberId) -> bool
     requires { (p : ℕ) × IsNodeOf tree.now p id }
     ensures { result ≡ true → AreInPlace (forest (Some old.now ∷ [])) (forest (first_node (list_of tree.now (Some id)) ∷ [])) }
 {

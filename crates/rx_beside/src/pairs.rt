@@ -1,5 +1,5 @@
 // A node of the finished tree beside the old one that it was made for.
-ghost use Rattle.std.specs.Prelude.{◌≡◌, ◌<◌, ◌^◌, ℕ, Bool, true, false, ◌||◌, List, All, IfSome, IfOk, Some, Option, is_some, length, map, option_and_then};
+ghost use Rattle.std.specs.Prelude.{◌≡◌, ◌<◌, ◌^◌, ℕ, Bool, true, false, ◌||◌, List, ◌∷◌, [], All, IfSome, IfOk, Some, Option, is_some, length, map, option_and_then};
 ghost use Rattle.rx_elem.specs.Trees as trees;
 ghost use Rattle.rx_elem.specs.Trees.{node, none, forest, element_of, mark_of, children_of, fallback_of, host_number, shows_fallback};
 ghost use Rattle.rx_elem.specs.Compare.{node_at};
@@ -17,10 +17,10 @@ ghost use Rattle.rx_beside.specs.Children.{IsChildOf, IsNodeOf, WasOver};
 ghost use Rattle.rx_beside.specs.Parts.{old_part, new_part, old_slot, new_slot, old_list, new_list};
 ghost use Rattle.rx_beside.specs.Slots.{IsKept, IsLeft, IsSlot, AreLists};
 
-use crate::children::{children_of, is_begun};
+use crate::children::{children_of, is_begun, only_child};
 use crate::lists::{
-    Lists, PrunedLists, PrunedNodes, Slot, add_in_place, add_slot, are_in_place, copy_nodes,
-    match_fibers,
+    Lists, Pair, PrunedLists, PrunedNodes, Slot, add_in_place, add_slot, are_in_place, copy_nodes,
+    is_same, match_fibers, only_lists,
 };
 use rx_compare::node_at;
 use rx_elem::Element;
@@ -29,15 +29,6 @@ use rx_links::{FiberId, FiberTree};
 use rx_node::{Mark, Node};
 use rx_read::{made_child, read_fiber};
 use std::alloc::{AllocError, Global};
-
-// A node of the finished tree; and, if something is left out, the old node and this one without it. Or it is the old node,
-// which can be left out itself.
-#[derive(Drop)]
-pub(crate) struct Pair {
-    pub tree: Node,
-    pub pruned: Option<PrunedNodes>,
-    pub left: bool,
-}
 
 // The number of a host or a text.
 fn host_number(mark: &Mark) -> Option<u64>
@@ -76,15 +67,16 @@ fn or_moved(displaced: bool, moved: bool) -> bool
     displaced || moved
 }
 
-// Whether a made fiber took over the children of the current one.
-fn takes_over(tree: &FiberTree<Fiber>, id: FiberId) -> bool
-    requires { Makes tree.now.draft id }
+// Whether a made fiber, of which it is known whether it has made children, took over those of the current one.
+fn takes_over(tree: &FiberTree<Fiber>, id: FiberId, has_made: bool) -> bool
+    requires made { Makes tree.now.draft id }
+    requires has { has_made ≡ is_some (made_entry (made_kids_of tree.now.draft id)) }
     ensures taken { result ≡ true → made_kids_of tree.now.draft id ≡ taken (old_kids tree.now id) }
     ensures some { result ≡ true → is_some (entry (made_kids_of tree.now.draft id)) ≡ true }
     ensures made { result ≡ false → list_of tree.now (made_entry (made_kids_of tree.now.draft id)) ≡ grafted (made_kids_of tree.now.draft id) }
 {
     tree.facts();
-    tree.first_child(id).is_some() && made_child(tree, id).is_none()
+    !has_made && tree.first_child(id).is_some()
 }
 
 // The old node at a place, if it is that of the current fiber for which a made one was made.
@@ -331,21 +323,78 @@ pub(crate) fn read_pair(
     if let Stage::Begun(mark) = fiber.stage()
         && goes_on(old.mark(), mark)
     {
-        if takes_over(tree, id) {
+        let first = made_child(tree, id);
+        if takes_over(tree, id, first.is_some()) {
             let taken = taken_pair(alloc, old, fiber.element(), mark, displaced)?;
             return Ok(taken);
         }
         let below = displaced_below(displaced, mark);
-        let lists = read_made(alloc, tree, id, old.children(), below)?;
+        let lists = read_made(alloc, tree, id, first, old.children(), below)?;
         let pair = pair_over(alloc, old, fiber.element(), mark, lists)?;
         return Ok(pair);
     }
     read_whole(alloc, tree, id)
 }
 
-// The made children of a made node beside those of the old one.
+// The old node of an only child, if that stands where this did, which was an only child too.
+fn was_only<'a>(
+    tree: &FiberTree<Fiber>,
+    child: FiberId,
+    old: &'a [Option<Node>],
+) -> Option<&'a Node>
+    requires over { (p : ℕ) × WasOver tree.now p (forest old.now) × IsNodeOf tree.now p child }
+    requires tree { (y : Option trees.Node) × IsTreeOf y tree.now.current }
+    ensures only { IfSome result (λ n. old.now ≡ Some n.now ∷ []) }
+    ensures was { IfSome result (λ n. Some n.now ≡ first_node (list_of tree.now (old_of tree.now.draft child))) }
+    ensures same { IfSome result (λ n. AreInPlace (forest (Some n.now ∷ [])) (forest (first_node (list_of tree.now (Some child)) ∷ []))) }
+{
+    if old.len() != 1 {
+        return None;
+    }
+    let node = was_beside(tree, child, old, Some(0))?;
+    if is_same(tree, node, child) {
+        Some(node)
+    } else {
+        None
+    }
+}
+
+// The made children of a made node, from the first on, beside those of the old one.
 #[cycle(pair)]
 fn read_made(
+    alloc: Global,
+    tree: &FiberTree<Fiber>,
+    id: FiberId,
+    first: Option<FiberId>,
+    old: &[Option<Node>],
+    displaced: bool,
+) -> Result<Lists, AllocError>
+    requires first { first ≡ made_entry (made_kids_of tree.now.draft id) }
+    requires over { WasOver tree.now id (forest old.now) }
+    requires tree { (y : Option trees.Node) × IsTreeOf y tree.now.current }
+    requires alike { AllTakeAlike tree.now.current tree.now.draft }
+    ensures tree { IfOk result (λ l. l.tree.items ≡ places_in 0 (list_of tree.now first)) }
+    ensures pruned { IfOk result (λ l. AreLists displaced (forest old.now) (forest l.tree.items) (forest (old_list old.now l.pruned)) (forest (new_list l.tree.items l.pruned))) }
+{
+    let Some(child) = only_child(tree, id, first) else {
+        let listed = read_listed(alloc, tree, id, old, displaced)?;
+        return Ok(listed);
+    };
+    match was_only(tree, child, old) {
+        Some(node) => {
+            let only = read_only(alloc, tree, child, node, displaced)?;
+            Ok(only)
+        }
+        None => {
+            let lists = read_listed(alloc, tree, id, old, displaced)?;
+            Ok(lists)
+        }
+    }
+}
+
+// The same if there are more of them, or the only one does not stand where the old one did.
+#[cycle(pair)]
+fn read_listed(
     alloc: Global,
     tree: &FiberTree<Fiber>,
     id: FiberId,
@@ -366,6 +415,29 @@ fn read_made(
         return Ok(kept);
     }
     let lists = read_matched(alloc, tree, id, old, displaced, made)?;
+    Ok(lists)
+}
+
+// The list of an only child that stands where the old one did, which was an only child too.
+#[cycle(pair)]
+fn read_only(
+    alloc: Global,
+    tree: &FiberTree<Fiber>,
+    child: FiberId,
+    old: &Node,
+    displaced: bool,
+) -> Result<Lists, AllocError>
+    requires made { Makes tree.now.draft child }
+    requires tree { (y : Option trees.Node) × IsTreeOf y tree.now.current }
+    requires alike { AllTakeAlike tree.now.current tree.now.draft }
+    requires old { Some old.now ≡ first_node (list_of tree.now (old_of tree.now.draft child)) }
+    requires node { (x : trees.Node) × (first_node (list_of tree.now (Some child)) ≡ Some x) }
+    requires same { AreInPlace (forest (Some old.now ∷ [])) (forest (first_node (list_of tree.now (Some child)) ∷ [])) }
+    ensures tree { IfOk result (λ l. l.tree.items ≡ first_node (list_of tree.now (Some child)) ∷ []) }
+    ensures pruned { IfOk result (λ l. AreLists displaced (forest (Some old.now ∷ [])) (forest l.tree.items) (forest (old_list (Some old.now ∷ []) l.pruned)) (forest (new_list l.tree.items l.pruned))) }
+{
+    let pair = read_pair(alloc, tree, child, old, displaced)?;
+    let lists = only_lists(alloc, pair)?;
     Ok(lists)
 }
 

@@ -1,4 +1,4 @@
-use Rattle.std.proofs.Common.{map, All, IfSome, Some, refl, sym, ap, ◌∙◌, subst, arith}
+use Rattle.std.proofs.Common.{[], ◌∷◌, map, All, IfSome, Some, refl, sym, ap, ◌∙◌, subst, arith}
 use Rattle.std.proofs.lemmas.List.{length-take-le}
 use Rattle.std.proofs.lemmas.List.Elements.{All-get_or}
 use Rattle.std.specs.Prelude.{option_and_then}
@@ -6,6 +6,7 @@ use Rattle.rx_elem.specs.Trees.{node, none, forest, children_of, shows_fallback}
 use Rattle.rx_elem.specs.Compare.{node_at}
 use Rattle.rx_node.specs.MarkView.{mark_seen}
 use Rattle.rx_fiber.specs.FiberView.{stage_seen}
+use Rattle.rx_compare.specs.InPlace.{AreInPlace}
 use Rattle.rx_pruned.specs.Pruned.{GoesOn}
 use Rattle.rx_read.specs.Lists.{list_of}
 use Rattle.rx_read.specs.Places.{places_in, first_node}
@@ -21,26 +22,26 @@ use Rattle.rx_beside.proofs.Walking.{none_walked_yet}
 use Rattle.rx_beside.proofs.Staying as stay
 use Rattle.rx_beside.proofs.pairs.+pair.Goals as goal
 
-pub read_made-are_in_place-requires : goal.read_made-are_in_place-requires
-read_made-are_in_place-requires t c =
+pub read_listed-are_in_place-requires : goal.read_listed-are_in_place-requires
+read_listed-are_in_place-requires t c =
     (c.args.id, subst (All (λ o. IfSome o (IsNodeOf c.args.tree.now c.args.id))) (sym c.as_slice-made.ensures.value) c.in_ok-fibers.ensures.children)
 
-pub read_made-read_in_place-requires : goal.read_made-read_in_place-requires
-read_made-read_in_place-requires t c =
+pub read_listed-read_in_place-requires : goal.read_listed-read_in_place-requires
+read_listed-read_in_place-requires t c =
     let children = subst (All (λ o. IfSome o (IsNodeOf c.args.tree.now c.args.id))) (sym c.as_slice-made.ensures.value) c.in_ok-fibers.ensures.children in
     (omega (arith, c.decreases), (c.requires.over, (c.requires.tree, (c.requires.alike, (children, (c.are_in_place.ensures.same c.if-are_in_place.true, c.are_in_place.ensures.few c.if-are_in_place.true))))))
 
-pub read_made-read_matched-requires : goal.read_made-read_matched-requires
-read_made-read_matched-requires t c =
+pub read_listed-read_matched-requires : goal.read_listed-read_matched-requires
+read_listed-read_matched-requires t c =
     let children = subst (All (λ o. IfSome o (IsNodeOf c.args.tree.now c.args.id))) (sym c.as_slice-made.ensures.value) c.in_ok-fibers.ensures.children in
     (omega (arith, c.decreases), (c.requires.over, (c.requires.tree, (c.requires.alike, children))))
 
-pub read_made-returns-then-are_in_place-clause-tree : goal.read_made-returns-then-are_in_place-clause-tree
-read_made-returns-then-are_in_place-clause-tree t c =
+pub read_listed-returns-then-are_in_place-clause-tree : goal.read_listed-returns-then-are_in_place-clause-tree
+read_listed-returns-then-are_in_place-clause-tree t c =
     c.in_ok-kept.ensures.tree ∙ ap (map (λ o. first_node (list_of c.args.tree.now o))) c.as_slice-made.ensures.value ∙ c.in_ok-fibers.ensures.places
 
-pub read_made-returns-clause-tree : goal.read_made-returns-clause-tree
-read_made-returns-clause-tree t c =
+pub read_listed-returns-clause-tree : goal.read_listed-returns-clause-tree
+read_listed-returns-clause-tree t c =
     c.in_ok-lists.ensures.tree ∙ ap (map (λ o. first_node (list_of c.args.tree.now o))) c.as_slice-made.ensures.value ∙ c.in_ok-fibers.ensures.places
 
 pub read_matched-match_fibers-requires : goal.read_matched-match_fibers-requires
@@ -156,7 +157,7 @@ read_pair-read_made-requires t c =
     let g = c.goes_on.ensures.goes c.if-goes_on.true in
     let shown = c.goes_on.ensures.shown c.if-goes_on.true in
     let o = old_children trees c.facts.ensures.fits c.facts.ensures.linked c.args.id c.requires.made c.args.old.now c.requires.old (ap shows_fallback (sym c.mark.ensures) ∙ shown.0) in
-    (omega (arith, c.decreases), (record { made = c.requires.made; read = c.children.ensures.all ∙ o.0 }, (c.requires.tree, c.requires.alike)))
+    (omega (arith, c.decreases), (c.made_child-first.ensures.entry, (record { made = c.requires.made; read = c.children.ensures.all ∙ o.0 }, (c.requires.tree, c.requires.alike))))
 
 pub read_pair-returns-clause-tree : goal.read_pair-returns-clause-tree
 read_pair-returns-clause-tree t c =
@@ -166,7 +167,7 @@ read_pair-returns-clause-tree t c =
     let shown = c.goes_on.ensures.shown c.if-goes_on.true in
     let b = beside_at trees c.facts.ensures.fits c.facts.ensures.linked c.args.id c.requires.made in
     let n = new_node trees c.args.id b v (c.value-fiber.ensures.made c.requires.made) w (sym c.stage.ensures ∙ ap stage_seen c.in-Begun.is) shown.1 in
-    let kids = c.in_ok-lists.ensures.tree ∙ ap (places_in 0) (c.takes_over.ensures.made c.if-takes_over.false) in
+    let kids = c.in_ok-lists.ensures.tree ∙ ap (λ o. places_in 0 (list_of trees o)) c.made_child-first.ensures.entry ∙ ap (places_in 0) (c.takes_over.ensures.made c.if-takes_over.false) in
     ap Some (c.in_ok-pair.ensures.tree ∙ (λ i. node (c.element-2.ensures i) w (forest (kids i)) none)) ∙ sym n
 
 pub read_pair-returns-clause-pruned : goal.read_pair-returns-clause-pruned
@@ -234,6 +235,16 @@ read_pair-returns-then-takes_over-clause-left t c =
     λ fixed. kept_node trees c.facts.ensures.fits c.facts.ensures.linked c.requires.alike c.args.id c.requires.made old c.requires.old fixed took some v value w stage g.new_shown was in
     let o = old_children trees c.facts.ensures.fits c.facts.ensures.linked c.args.id c.requires.made old c.requires.old was in
     c.in_ok-taken.ensures.left (subst (λ e. IsKept old (node e w (children_of old) none)) (sym c.element.ensures) kept) (subst (λ m. GoesOn m w) c.mark.ensures g) o.1
+
+pub read_only-returns-clause-pruned : goal.read_only-returns-clause-pruned
+read_only-returns-clause-pruned t c =
+    let o = c.args.old.now in
+    let p = c.in_ok-pair.pair in
+    let l = c.in_ok-lists.lists in
+    let same = subst (λ x. AreInPlace (forest (Some o ∷ [])) (forest (x ∷ []))) (sym c.in_ok-pair.ensures.tree) c.requires.same in
+    stay.only_stays c.args.displaced (Some o ∷ []) l.tree.items l.pruned o p.tree p.pruned p.left refl
+    c.in_ok-lists.ensures.tree (c.in_ok-lists.ensures.pruned_old o) c.in_ok-lists.ensures.pruned_new
+    same (slot_by c.args.displaced (Some o) o p.tree p.pruned refl c.in_ok-pair.ensures.pruned) c.in_ok-pair.ensures.left
 
 pub read_slot-returns-in_default-clause-pruned : goal.read_slot-returns-in_default-clause-pruned
 read_slot-returns-in_default-clause-pruned t c = slots.kept

@@ -8,19 +8,25 @@ use Rattle.rx_beside.proofs.Staying.{Stays}
 use Rattle.rx_beside.proofs.pairs.+pair.Given as goal
 
 abbrev pub decreases-read_pair : goal.decreases-read_pair
-decreases-read_pair l = 4 * size (list_of l.tree.now (Some l.id)) + 3
+decreases-read_pair l = 5 * size (list_of l.tree.now (Some l.id)) + 4
 
 abbrev pub decreases-read_made : goal.decreases-read_made
-decreases-read_made l = 4 * size (list_of l.tree.now (Some l.id)) + 2
+decreases-read_made l = 5 * size (list_of l.tree.now (Some l.id)) + 3
+
+abbrev pub decreases-read_listed : goal.decreases-read_listed
+decreases-read_listed l = 5 * size (list_of l.tree.now (Some l.id)) + 2
+
+abbrev pub decreases-read_only : goal.decreases-read_only
+decreases-read_only l = 5 * size (list_of l.tree.now (Some l.child)) + 5
 
 abbrev pub decreases-read_in_place : goal.decreases-read_in_place
-decreases-read_in_place l = 4 * size (list_of l.tree.now (Some l.id)) + 1
+decreases-read_in_place l = 5 * size (list_of l.tree.now (Some l.id)) + 1
 
 abbrev pub decreases-read_matched : goal.decreases-read_matched
-decreases-read_matched l = 4 * size (list_of l.tree.now (Some l.id)) + 1
+decreases-read_matched l = 5 * size (list_of l.tree.now (Some l.id)) + 1
 
 abbrev pub decreases-read_slot : goal.decreases-read_slot
-decreases-read_slot l = 4 * size (list_of l.tree.now l.child) + 4
+decreases-read_slot l = 5 * size (list_of l.tree.now l.child) + 5
 
 -- the places so far are walked
 abbrev pub invariant-read_matched-going : goal.invariant-read_matched-going
