@@ -37,10 +37,10 @@ impl Subtree {
         ensures { result ≡ joined self other }
     {
         Subtree {
-            reads: self.reads || other.reads,
-            uses: self.uses || other.uses,
-            hides: self.hides || other.hides,
-            instances: self.instances || other.instances,
+            reads: self.reads | other.reads,
+            uses: self.uses | other.uses,
+            hides: self.hides | other.hides,
+            instances: self.instances | other.instances,
         }
     }
 }
