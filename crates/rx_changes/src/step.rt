@@ -3,8 +3,7 @@ ghost use Rattle.std.specs.Prelude.{◌≡◌, ◌&&◌, not, true};
 ghost use Rattle.rx_elem.specs.Trees.{is_hidden, mark_of, was_hidden};
 ghost use Rattle.rx_elem.specs.Compare.{above_children, above_fallback, above_root, change_of};
 ghost use Rattle.rx_elem.specs.Spots.{Around, around_children, at_root};
-ghost use Rattle.rx_compare.specs.AboveView.{past_seen};
-ghost use Rattle.rx_compare.specs.ComparedView.{change_seen};
+ghost use Rattle.rx_compare.specs.ComparedView.{change_seen, past_seen};
 ghost use Rattle.rx_changes.specs.StepView.{level_seen, step_seen};
 
 use rx_compare as compare;

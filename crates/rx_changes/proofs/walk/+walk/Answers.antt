@@ -5,7 +5,7 @@ use Rattle.rx_elem.specs.Compare.{Past, change_of, pasts, gone_from, compare_in}
 use Rattle.rx_elem.specs.Spots.{around_children, at_root}
 use Rattle.rx_effect.specs.EffectLog.{destroyed_in}
 use Rattle.rx_node.proofs.Listing.{height-get}
-use Rattle.rx_compare.specs.AboveView.{past_seen}
+use Rattle.rx_compare.specs.ComparedView.{past_seen}
 use Rattle.rx_compare.proofs.InPlaceLists.{in_place-front, in_place-length, stays}
 use Rattle.rx_changes.specs.ChangesView.{changes_seen}
 use Rattle.rx_changes.specs.Found.{hiding, logged, no_effects, with_effects, with_list, with_node}
