@@ -3,10 +3,12 @@ use Rattle.std.proofs.Common.{◌≡◌, Bool, true, false, not, ◌&&◌, ◌||
 use Rattle.std.specs.List.{filter, zip}
 use Rattle.rx_elem.specs.Trees.{Forest, Node, children_if, children_of, effects_in, elements_in, fallback_if, fallback_of, is_hidden, is_shown, mark_of, none}
 use Rattle.rx_elem.specs.Compare.{Change, above_children, above_fallback, compare_in, gone_from, pasts}
-use Rattle.rx_elem.specs.Spots.{spots_in}
+use Rattle.rx_elem.specs.Spots.{Around, spots_in}
 use Rattle.rx_effect.specs.EffectLog.{Phase, around_old, changed_effects, destroyed_at, destroyed_by_hiding, destroyed_in, differs, is_live, layout, lines_at, own_created, own_destroyed, passive}
 use Rattle.rx_effect.specs.declared.log.LogLine.{LogLine}
-use Rattle.rx_changes.specs.Below.{IsLeaf, with_below}
+use Rattle.rx_compare.specs.InPlace.{AreInPlace}
+use Rattle.rx_compare.proofs.InPlace.{no_nodes_gone}
+use Rattle.rx_changes.specs.Below.{HasTextsInPlace, IsLeaf, with_below, with_children}
 use Rattle.rx_changes.specs.Found.{Found, hiding, logged, no_effects, with_effects, with_list}
 use Rattle.rx_changes.specs.Owned.{HasNoEffects, effects_if}
 use Rattle.rx_changes.proofs.Logged.{lines_at-nil}
@@ -70,6 +72,36 @@ leaf-below logs c f leaf =
     (hides
     ∙ ap (with_effects (logged logs (hiding c)) no_effects)
     (kids ∙ ap (with_list shows inner) (behind ∙ ap (with_effects (logged logs second) no_effects) gone)))
+
+-- below a node without a fallback is found what its children tell
+pub children-below : (logs : Bool) (c : Change) (f : Found) → fallback_if c.old ≡ none → fallback_of c.new ≡ none → with_children logs c f ≡ with_below logs c f
+children-below logs c f old new =
+    let first : Phase → List LogLine = λ q. flat_map (destroyed_in q) (gone_from (above_children c).was_visible (children_if c.old) (children_of c.new)) in
+    let second : Phase → List LogLine = λ q. flat_map (destroyed_in q) (gone_from c.was_visible (fallback_if c.old) (fallback_of c.new)) in
+    let inner = compare_in (above_children c) (pasts (children_if c.old) (elements_in (children_of c.new))) (children_of c.new) in
+    let outer = compare_in (above_fallback c) (pasts (fallback_if c.old) (elements_in (fallback_of c.new))) (fallback_of c.new) in
+    let shows = logs && not (is_hidden (mark_of c.new)) in
+    let gone = with_effects (logged logs first) no_effects f in
+    let behind : gone ≡ with_effects (logged logs second) no_effects gone = without-destroyed logs second gone (gone-nothing c.was_visible (fallback_if c.old) (fallback_of c.new) old new) in
+    let kids : Found → Found = λ g. with_effects (logged logs (hiding c)) no_effects (with_list shows inner g) in
+    ap kids behind
+    ∙ sym (none-sum logs (kids (with_effects (logged logs second) no_effects gone)))
+    ∙ (λ i. with_list logs (compare_in (above_fallback c) (pasts (fallback_if c.old) (elements_in (sym new i))) (sym new i)) (kids (with_effects (logged logs second) no_effects gone)))
+
+-- nothing is gone of a list whose children are each at their places
+pub in_place-gone : (logs visible : Bool) (old new : Forest) (f : Found) → AreInPlace old new
+    → f ≡ with_effects (logged logs (λ q. flat_map (destroyed_in q) (gone_from visible old new))) no_effects f
+in_place-gone logs visible old new f same =
+    without-destroyed logs (λ q. flat_map (destroyed_in q) (gone_from visible old new)) f
+    (λ q. ap (λ ns. flat_map (destroyed_in q) (map (λ n. record { node = n; was_visible = visible }) ns)) (no_nodes_gone old new same))
+
+-- a leaf is one wherever it stands
+pub leaf-around : (a : Around) (c : Change) → IsLeaf c → IsLeaf (record c { around = a })
+leaf-around a c h = record { old = h.old; behind = h.behind; new = h.new; beside = h.beside }
+
+-- and so is a node with texts in place
+pub texts-around : (a : Around) (c : Change) → HasTextsInPlace c → HasTextsInPlace (record c { around = a })
+texts-around a c h = record { old = h.old; new = h.new; same = h.same; behind = h.behind; beside = h.beside; still = h.still; shown = h.shown }
 
 no-changes : (old : Option Node) (new : Node) → effects_if old ≡ [] → changed_effects old new ≡ []
 no-changes None new h = refl

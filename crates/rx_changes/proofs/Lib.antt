@@ -1,5 +1,6 @@
 mod Bare
 mod Texts
+mod Telling
 pub mod Growing
 pub mod Logged
 pub mod Sums

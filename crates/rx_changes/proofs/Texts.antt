@@ -74,7 +74,7 @@ module _ (logs : Bool) (around : Around) (v : Bool) where
         caught = sym (append-nil f.caught) k;
         hidden = f.hidden;
       } in
-      node-parts logs above (record { old = Some (text_node s i); moved = false }) (text_node t j) c f f f f refl told (leaf-below logs c f leaf)
+      node-parts logs c f f f f told (leaf-below logs c f leaf)
       (without-effects logs (λ q. own_destroyed q c) (λ q. own_created q c) f (no-own-destroyed c bare) (no-own-created c bare))
 
   one : (o n : Node) (f : Found) → is_text o ≡ true → is_text n ≡ true → f ≡ with_node logs (compare above (record { old = Some o; moved = false }) n) f

@@ -5,7 +5,7 @@ use Rattle.std.proofs.Math.Seq.{drop-cons}
 use Rattle.rx_elem.specs.Trees.{Node, node, Forest, vacant, forest, elements_in, mark_of, is_hidden, children_of, children_if, fallback_of, fallback_if}
 use Rattle.rx_elem.specs.Compare.{Past, pasts, Above, Change, change_of, above_children, above_fallback, gone_from, compare, compare_in}
 use Rattle.rx_effect.specs.EffectLog.{destroyed_in, own_destroyed, own_created}
-use Rattle.rx_changes.specs.Below.{with_below}
+use Rattle.rx_changes.specs.Below.{compared_of, with_below}
 use Rattle.rx_changes.specs.Found.{Found, with_changes, with_effects, no_effects, logged, hiding, with_node, with_list}
 use Rattle.rx_changes.proofs.Sums.{node-sum, list-sum, none-sum}
 
@@ -75,12 +75,15 @@ below-parts logs c f f2 f3 f4 f5 f6 e2 e3 e4 e5 e6 =
     (e2 ∙ ap (with_effects (logged logs (λ q. flat_map (destroyed_in q) gone)) no_effects) refl))))
 
 -- a node, with what is below it and its own effects
-pub node-parts : (logs : Bool) (a : Above) (p : Past) (n : Node) (c : Change) (f f1 f2 f3 : Found) → c ≡ change_of a p n → f1 ≡ with_changes (c ∷ []) f → f2 ≡ with_below logs c f1
-    → f3 ≡ with_effects (logged logs (λ q. own_destroyed q c)) (logged logs (λ q. own_created q c)) f2 → f3 ≡ with_node logs (compare a p n) f
-node-parts logs a p (node e m ns ms) c f f1 f2 f3 is e1 e2 e3 =
-    let d = change_of a p (node e m ns ms) in
+pub node-parts : (logs : Bool) (c : Change) (f f1 f2 f3 : Found) → f1 ≡ with_changes (c ∷ []) f → f2 ≡ with_below logs c f1
+    → f3 ≡ with_effects (logged logs (λ q. own_destroyed q c)) (logged logs (λ q. own_created q c)) f2 → f3 ≡ with_node logs (compared_of c) f
+node-parts logs c f f1 f2 f3 e1 e2 e3 =
     e3
     ∙ ap (with_effects (logged logs (λ q. own_destroyed q c)) (logged logs (λ q. own_created q c))) (e2 ∙ ap (with_below logs c) e1)
-    ∙ (λ i. with_effects (logged logs (λ q. own_destroyed q (is i))) (logged logs (λ q. own_created q (is i))) (with_below logs (is i) (with_changes (is i ∷ []) f)))
-    ∙ node-sum logs d (gone_from (above_children d).was_visible (children_if p.old) ns) (gone_from d.was_visible (fallback_if p.old) ms)
-    (compare_in (above_children d) (pasts (children_if p.old) (elements_in ns)) ns) (compare_in (above_fallback d) (pasts (fallback_if p.old) (elements_in ms)) ms) f
+    ∙ node-sum logs c (gone_from (above_children c).was_visible (children_if c.old) (children_of c.new)) (gone_from c.was_visible (fallback_if c.old) (fallback_of c.new))
+    (compare_in (above_children c) (pasts (children_if c.old) (elements_in (children_of c.new))) (children_of c.new))
+    (compare_in (above_fallback c) (pasts (fallback_if c.old) (elements_in (fallback_of c.new))) (fallback_of c.new)) f
+
+-- a node beside its past
+pub compare-step : (a : Above) (p : Past) (n : Node) (c : Change) → c ≡ change_of a p n → compared_of c ≡ compare a p n
+compare-step a p (node e m ns ms) c is = ap compared_of is

@@ -3,3 +3,4 @@ pub mod Found
 pub mod Below
 pub mod Owned
 pub mod ChangesView
+pub mod StepView

@@ -6,6 +6,7 @@ mod changes;
 mod line;
 mod own;
 mod past;
+mod step;
 mod walk;
 
 pub use changes::{Changes, Lines};

@@ -4,11 +4,12 @@ ghost use Rattle.std.specs.List.{zip};
 ghost use Rattle.rx_elem.specs.Trees.{effects_in, mark_of};
 ghost use Rattle.rx_effect.specs.EffectLog.{is_of, is_live, is_passive, line_of, lines_at, differs, changed_effects, own_destroyed, own_created};
 ghost use Rattle.rx_node.specs.MarkView.{mark_seen};
-ghost use Rattle.rx_compare.specs.ComparedView.{change_seen};
+ghost use Rattle.rx_elem.specs.Spots.{at_root};
 ghost use Rattle.rx_changes.specs.Phases.{phase_seen, old_or_new};
+ghost use Rattle.rx_changes.specs.StepView.{step_seen};
 
+use crate::step::Step;
 use rx_base::{Ints, Str};
-use rx_compare::Change;
 use rx_effect::{LogLine, differ};
 use rx_elem::EffectRecord;
 use rx_node::Mark;
@@ -148,9 +149,9 @@ fn add_changed(
     lines: &mut Vec<LogLine>,
     phase: Phase,
     created: bool,
-    change: &Change,
+    change: &Step,
 ) -> Result<(), AllocError>
-    ensures { OnOk result (lines.new.items ≡ lines.old.items ++ lines_at (phase_seen phase) created (mark_of (change_seen change.now).new) (map (old_or_new created) (changed_effects (change_seen change.now).old (change_seen change.now).new))) }
+    ensures { OnOk result (lines.new.items ≡ lines.old.items ++ lines_at (phase_seen phase) created (mark_of (step_seen at_root change.now).new) (map (old_or_new created) (changed_effects (step_seen at_root change.now).old (step_seen at_root change.now).new))) }
 {
     let mark = change.new.mark();
     match change.old {
@@ -167,9 +168,9 @@ pub(crate) fn add_own_destroyed(
     alloc: Global,
     lines: &mut Vec<LogLine>,
     phase: Phase,
-    change: &Change,
+    change: &Step,
 ) -> Result<(), AllocError>
-    ensures { OnOk result (lines.new.items ≡ lines.old.items ++ own_destroyed (phase_seen phase) (change_seen change.now)) }
+    ensures { OnOk result (lines.new.items ≡ lines.old.items ++ own_destroyed (phase_seen phase) (step_seen at_root change.now)) }
 {
     if phase.is_live(change.was_visible) {
         return add_changed(alloc, lines, phase, false, change);
@@ -182,9 +183,9 @@ pub(crate) fn add_own_created(
     alloc: Global,
     lines: &mut Vec<LogLine>,
     phase: Phase,
-    change: &Change,
+    change: &Step,
 ) -> Result<(), AllocError>
-    ensures { OnOk result (lines.new.items ≡ lines.old.items ++ own_created (phase_seen phase) (change_seen change.now)) }
+    ensures { OnOk result (lines.new.items ≡ lines.old.items ++ own_created (phase_seen phase) (step_seen at_root change.now)) }
 {
     if change.old.is_none() || !phase.is_live(change.was_visible) {
         return add_lines(alloc, lines, phase, true, change.new.mark());

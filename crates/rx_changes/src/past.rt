@@ -1,21 +1,23 @@
 // What an old tree destroys that is gone or hidden.
 ghost use Rattle.std.specs.Prelude.{◌≡◌, ◌++◌, OnOk, flat_map, map, filter_map};
 ghost use Rattle.rx_elem.specs.Trees.{forest};
-ghost use Rattle.rx_elem.specs.Spots.{spots, spots_in};
+ghost use Rattle.rx_elem.specs.Spots.{at_root, spots, spots_in};
 ghost use Rattle.rx_elem.specs.Compare.{node_at, gone_from};
-ghost use Rattle.rx_effect.specs.EffectLog.{layout, around_old, destroyed_at, destroyed_in};
+ghost use Rattle.rx_effect.specs.EffectLog.{layout, around_old, destroyed_by_hiding, destroyed_at, destroyed_in};
 ghost use Rattle.rx_node.specs.MarkView.{mark_seen};
-ghost use Rattle.rx_compare.specs.ComparedView.{around_seen, change_seen};
+ghost use Rattle.rx_compare.specs.ComparedView.{around_seen};
 ghost use Rattle.rx_compare.specs.Matched.{gone_as};
 ghost use Rattle.rx_compare.specs.Pairs.{IsPairing};
 ghost use Rattle.rx_elem.specs.Trees as trees;
 ghost use Rattle.rx_changes.specs.ChangesView.{changes_seen};
 ghost use Rattle.rx_changes.specs.Found.{hiding, logged, no_effects, with_effects};
 ghost use Rattle.rx_changes.specs.Phases.{phase_seen, destroyed_of};
+ghost use Rattle.rx_changes.specs.StepView.{step_seen};
 
 use crate::changes::Changes;
 use crate::line::{Phase, add_lines};
-use rx_compare::{Around, Change, Pairing, node_at};
+use crate::step::Step;
+use rx_compare::{Around, Pairing, node_at};
 use rx_effect::LogLine;
 use rx_node::{Mark, Node};
 use std::alloc::{AllocError, Global};
@@ -125,13 +127,11 @@ pub(crate) fn add_gone(
     Ok(())
 }
 
-// Goes on with the layout effects that a node's old children destroy if it hides them.
-fn add_hidden(alloc: Global, lines: &mut Vec<LogLine>, change: &Change) -> Result<(), AllocError>
-    ensures { OnOk result (lines.new.items ≡ lines.old.items ++ hiding (change_seen change.now) layout) }
+// Goes on with the layout effects that a node's old children destroy if it hides them, and was a boundary that showed them.
+#[inline(never)]
+fn add_hidden(alloc: Global, lines: &mut Vec<LogLine>, change: &Step) -> Result<(), AllocError>
+    ensures { OnOk result (lines.new.items ≡ lines.old.items ++ destroyed_by_hiding layout (step_seen at_root change.now).was_visible (step_seen at_root change.now).old) }
 {
-    if !change.new.mark().is_hidden() {
-        return Ok(());
-    }
     match change.old {
         Some(old) if old.mark().is_shown() => {
             let around = old_around(change.was_visible);
@@ -142,15 +142,18 @@ fn add_hidden(alloc: Global, lines: &mut Vec<LogLine>, change: &Change) -> Resul
 }
 
 // Goes on with what a node's old children destroy if it hides them, if that is logged.
+#[inline]
 pub(crate) fn add_hiding(
     alloc: Global,
     found: &mut Changes,
-    change: &Change,
-    logs: bool,
+    change: &Step,
 ) -> Result<(), AllocError>
-    ensures { OnOk result (changes_seen found.new ≡ with_effects (logged logs (hiding (change_seen change.now))) no_effects (changes_seen found.old)) }
+    ensures { OnOk result (changes_seen found.new ≡ with_effects (logged change.now.logs (hiding (step_seen at_root change.now))) no_effects (changes_seen found.old)) }
 {
-    if !logs {
+    if !change.logs {
+        return Ok(());
+    }
+    if !change.new.mark().is_hidden() {
         return Ok(());
     }
     add_hidden(alloc, &mut found.layout.destroyed, change)?;

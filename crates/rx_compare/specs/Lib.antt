@@ -1,6 +1,5 @@
 pub mod ComparedView
 pub mod Matched
-pub mod AboveView
 pub mod Hidden
 pub mod InPlace
 pub mod Pairs

@@ -9,7 +9,7 @@ mod outcome;
 mod pairing;
 
 pub use around::Around;
-pub use change::{Above, Change, Past};
-pub use lists::{children_if, elements_of, fallback_if, node_at};
+pub use change::{Change, Past};
+pub use lists::{are_in_place, children_if, elements_of, fallback_if, match_nodes, node_at};
 pub use outcome::{Outcome, outcome_of};
 pub use pairing::{Pairing, pair_nodes};

@@ -80,8 +80,8 @@ fn is_in_place(old: &Option<Node>, new: &Option<Node>) -> bool
     }
 }
 
-// Whether each new child is the old one at its place, and none is gone. Then nothing is to be matched.
-pub(crate) fn are_in_place(old: &[Option<Node>], new: &[Option<Node>]) -> bool
+/// Whether each new child is the old one at its place, and none is gone. Then nothing is to be matched.
+pub fn are_in_place(old: &[Option<Node>], new: &[Option<Node>]) -> bool
     ensures { result ≡ true → AreInPlace (forest old.now) (forest new.now) }
 {
     if old.len() != new.len() {
@@ -95,8 +95,12 @@ pub(crate) fn are_in_place(old: &[Option<Node>], new: &[Option<Node>]) -> bool
     true
 }
 
-// Which of the new children is which old one, which of them moved, and which old ones are gone.
-pub(crate) fn match_nodes(
+/// Which of the new children is which old one, which of them moved, and which old ones are gone.
+///
+/// # Errors
+///
+/// Only if out of memory.
+pub fn match_nodes(
     alloc: Global,
     old: &[Option<Node>],
     new: &[Option<Node>],

@@ -2,7 +2,7 @@
 ghost use Rattle.std.specs.Prelude.{◌≡◌, ◌∷◌, ◌+◌, ◌<◌, List, Option, IfOk, drop, length, filter_map};
 ghost use Rattle.rx_elem.specs.Trees.{Node, Forest, forest, elements_in};
 ghost use Rattle.rx_elem.specs.Compare.{pasts, node_at, gone_nodes};
-ghost use Rattle.rx_compare.specs.AboveView.{past_seen};
+ghost use Rattle.rx_compare.specs.ComparedView.{past_seen};
 ghost use Rattle.rx_compare.specs.Pairs.{IsPairing};
 
 use crate::change::Past;
