@@ -2,7 +2,7 @@
 use Rattle.std.proofs.Common.{◌≡◌, ℕ, zero, suc, ◌+◌, ◌<◌, ◌≤◌, Bool, true, false, ◌||◌, List, [], ◌∷◌, ◌++◌, length, get_or, take, map, refl, sym, ap, ◌∙◌, subst, arith, Option, Some, None}
 use Rattle.std.specs.Prelude.{slice_get}
 use Rattle.std.specs.Option.{option_flatten}
-use Rattle.std.proofs.lemmas.List.{length-map, map-append, take_all, take_more}
+use Rattle.std.proofs.lemmas.List.{append-nil, length-map, map-append, take_all, take_more}
 use Rattle.std.proofs.lemmas.Option.{slice_get-get_or}
 use Rattle.rx_elem.specs.Trees.{Node, vacant, child, forest, element_of}
 use Rattle.rx_elem.specs.Trees as trees
@@ -14,7 +14,7 @@ use Rattle.rx_compare.proofs.InPlaceLists.{in_place-length, stays}
 use Rattle.rx_beside.specs.declared.lists.PrunedLists.{PrunedLists}
 use Rattle.rx_beside.specs.declared.lists.PrunedNodes.{PrunedNodes}
 use Rattle.rx_beside.specs.Parts.{old_slot, new_slot, old_stay, new_stay, old_list, new_list}
-use Rattle.rx_beside.specs.Slots.{IsLeft, IsSlot, changed, AreLists, in_place}
+use Rattle.rx_beside.specs.Slots.{IsLeft, IsSlot, kept, changed, AreLists, in_place}
 use Rattle.rx_beside.proofs.Walking.{all_more, same_element, same_new_element}
 
 -- The walk
@@ -152,6 +152,20 @@ module _ (d : Bool) (os : List (Option Node)) (f : Option ℕ → Option Node) (
         et ∙ ap (λ l. l ++ x ∷ []) so_far ∙ ap (λ z. map f (take i fs) ++ z ∷ []) is ∙ sym (ap (map f) fs_is ∙ map-append f (take i fs) (c ∷ [])),
         subst (λ z. Stays d z ts2 (old_list z b2) (new_list ts2 b2)) (sym os_is) (rw (ep, eq, et) now),
       )
+
+  -- the same if it is left out itself
+  pub left_step : (i : ℕ) → i < length fs → (c : Option ℕ) (o : Option Node) → c ≡ get_or fs i c → o ≡ get_or os i o
+      → (ts : List (Option Node)) (b b2 : Option PrunedLists) (ts2 : List (Option Node)) (x : Option Node)
+      → ts ≡ map f (take i fs) → Stays d (take i os) ts (old_list (take i os) b) (new_list ts b)
+      → x ≡ o → IsLeft d (node_at (forest os) i) (f c)
+      → ts2 ≡ ts ++ x ∷ [] → old_list (take i os ++ o ∷ []) b2 ≡ old_list (take i os) b → new_list ts2 b2 ≡ new_list ts b
+      → (ts2 ≡ map f (take (i + 1) fs)) × Stays d (take (i + 1) os) ts2 (old_list (take (i + 1) os) b2) (new_list ts2 b2)
+  left_step i less c o at_c at_o ts b b2 ts2 x so_far s copied out et ep eq =
+      let lo : i < length os = omega (arith, even) in
+      let was : node_at (forest os) i ≡ o = node_at-list os i ∙ ap option_flatten (slice_get-get_or os i o lo ∙ ap Some (sym at_o)) in
+      let is : x ≡ f c = copied ∙ sym was ∙ out.was ∙ sym out.is in
+      step i less c o at_c at_o ts b b2 ts2 x None true so_far s is kept (λ e. subst (IsLeft d (node_at (forest os) i)) (sym is) out)
+      et (ep ∙ sym (append-nil (old_list (take i os) b))) (eq ∙ sym (append-nil (new_list ts b)))
 
   -- All of them are walked.
   pub done : (i : ℕ) → length fs ≤ i → (ts : List (Option Node)) (b : Option PrunedLists) → ts ≡ map f (take i fs)

@@ -58,7 +58,7 @@ pub(crate) struct Slot {
 }
 
 // The same node, if there is one, by one handle more.
-fn copy_node(node: &Option<Node>) -> Result<Option<Node>, AllocError>
+pub(crate) fn copy_node(node: &Option<Node>) -> Result<Option<Node>, AllocError>
     ensures { IfOk result (λ n. n ≡ node.now) }
 {
     match node {
@@ -204,7 +204,7 @@ fn add_nodes(
 }
 
 // Goes on behind these old places with a node that is left out itself.
-fn leave_out(
+pub(crate) fn leave_out(
     alloc: Global,
     lists: &mut Lists,
     before: &[Option<Node>],
@@ -214,9 +214,11 @@ fn leave_out(
     ensures pruned_old { (os : List (Option trees.Node)) → OnOk result (old_list os lists.new.pruned ≡ old_list before.now lists.old.pruned) }
     ensures pruned_new { OnOk result (new_list lists.new.tree.items lists.new.pruned ≡ new_list lists.old.tree.items lists.old.pruned) }
 {
-    let new = lists.tree.as_slice();
-    let pruned = pruned_lists(alloc, lists.pruned.take(), before, new, new.len())?;
-    lists.pruned = Some(pruned);
+    if lists.pruned.is_none() {
+        let new = lists.tree.as_slice();
+        let whole = pruned_lists(alloc, None, before, new, new.len())?;
+        lists.pruned = Some(whole);
+    }
     lists.tree.push(node)?;
     Ok(())
 }

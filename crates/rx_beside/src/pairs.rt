@@ -19,8 +19,8 @@ ghost use Rattle.rx_beside.specs.Slots.{IsKept, IsLeft, IsSlot, AreLists};
 
 use crate::children::{children_of, is_begun, only_child};
 use crate::lists::{
-    Lists, Pair, PrunedLists, PrunedNodes, Slot, add_in_place, add_slot, are_in_place, copy_nodes,
-    is_same, match_fibers, only_lists,
+    Lists, Pair, PrunedLists, PrunedNodes, Slot, add_in_place, add_slot, are_in_place, copy_node,
+    copy_nodes, is_same, leave_out, match_fibers, only_lists,
 };
 use rx_compare::node_at;
 use rx_elem::Element;
@@ -99,6 +99,45 @@ fn was_beside<'a>(
         node_at(old, Some(place))
     } else {
         None
+    }
+}
+
+// Whether a made fiber is the old node that it was made for: it took its children over, and a commit leaves the mark as it is.
+fn is_kept(tree: &FiberTree<Fiber>, id: FiberId, old: &Node) -> bool
+    requires made { Makes tree.now.draft id }
+    requires alike { AllTakeAlike tree.now.current tree.now.draft }
+    requires old { Some old.now ≡ first_node (list_of tree.now (old_of tree.now.draft id)) }
+    ensures { result ≡ true → IsLeft false (Some old.now) (first_node (list_of tree.now (Some id))) }
+{
+    tree.facts();
+    let Stage::Begun(mark) = tree.value(id).stage() else {
+        return false;
+    };
+    if !old.mark().is_fixed() || !goes_on(old.mark(), mark) {
+        return false;
+    }
+    takes_over(tree, id, made_child(tree, id).is_some())
+}
+
+// Whether what stands at a place of a made list is the old node at this one, which can be left out itself.
+fn is_left(
+    tree: &FiberTree<Fiber>,
+    child: Option<FiberId>,
+    old: &[Option<Node>],
+    place: Option<u32>,
+    displaced: bool,
+) -> bool
+    requires over { (p : ℕ) × WasOver tree.now p (forest old.now) × IfSome child (IsNodeOf tree.now p) }
+    requires tree { (y : Option trees.Node) × IsTreeOf y tree.now.current }
+    requires alike { AllTakeAlike tree.now.current tree.now.draft }
+    ensures { result ≡ true → IsLeft displaced (option_and_then (node_at (forest old.now)) place) (first_node (list_of tree.now child)) }
+{
+    let Some(id) = child else {
+        return false;
+    };
+    match was_beside(tree, id, old, place) {
+        Some(node) => !displaced && is_kept(tree, id, node),
+        None => false,
     }
 }
 
@@ -467,8 +506,12 @@ fn read_in_place(
     };
     'going: for i in 0..fibers.len() {
         let place = Some(i as u32);
-        let slot = read_slot(alloc, tree, fibers[i], old, place, displaced)?;
-        add_in_place(alloc, &mut lists, &old[..i], &old[i], slot)?;
+        if is_left(tree, fibers[i], old, place, displaced) {
+            leave_out(alloc, &mut lists, &old[..i], copy_node(&old[i])?)?;
+        } else {
+            let slot = read_slot(alloc, tree, fibers[i], old, place, displaced)?;
+            add_in_place(alloc, &mut lists, &old[..i], &old[i], slot)?;
+        }
     }
     Ok(lists)
 }

@@ -1,8 +1,8 @@
-use Rattle.std.proofs.Common.{[], ◌∷◌, map, All, IfSome, Some, refl, sym, ap, ◌∙◌, subst, arith}
+use Rattle.std.proofs.Common.{ℕ, Option, [], ◌∷◌, ◌++◌, map, take, All, IfSome, Some, refl, sym, ap, ◌∙◌, subst, arith}
 use Rattle.std.proofs.lemmas.List.{length-take-le}
 use Rattle.std.proofs.lemmas.List.Elements.{All-get_or}
 use Rattle.std.specs.Prelude.{option_and_then}
-use Rattle.rx_elem.specs.Trees.{node, none, forest, children_of, shows_fallback}
+use Rattle.rx_elem.specs.Trees.{Node, node, none, forest, children_of, shows_fallback}
 use Rattle.rx_elem.specs.Compare.{node_at}
 use Rattle.rx_node.specs.MarkView.{mark_seen}
 use Rattle.rx_fiber.specs.FiberView.{stage_seen}
@@ -21,6 +21,7 @@ use Rattle.rx_beside.proofs.Ending.{places_even, moved_even, step, done, slot_by
 use Rattle.rx_beside.proofs.Walking.{none_walked_yet}
 use Rattle.rx_beside.proofs.Staying as stay
 use Rattle.rx_beside.proofs.pairs.+pair.Goals as goal
+use Rattle.rx_beside.proofs.pairs.+pair.Goals.{read_in_place-then-is_left+in_ok-copy_node+in_ok-leave_out, read_in_place-else-is_left+in_ok-slot+in_ok-add_in_place}
 
 pub read_listed-are_in_place-requires : goal.read_listed-are_in_place-requires
 read_listed-are_in_place-requires t c =
@@ -112,8 +113,8 @@ read_in_place-going-init t c = record {
 pub read_in_place-read_slot-requires : goal.read_in_place-read_slot-requires
 read_in_place-read_slot-requires t c =
     let trees = c.args.tree.now in
-    let o = c.index-fibers-i.result in
-    let node = subst (λ q. IfSome q (IsNodeOf trees c.args.id)) (sym c.index-fibers-i.is) (All-get_or (λ q. IfSome q (IsNodeOf trees c.args.id)) c.args.fibers.now c.going.i o c.going-test.true c.requires.children) in
+    let o = c.index-fibers-i-else-is_left.result in
+    let node = subst (λ q. IfSome q (IsNodeOf trees c.args.id)) (sym c.index-fibers-i-else-is_left.is) (All-get_or (λ q. IfSome q (IsNodeOf trees c.args.id)) c.args.fibers.now c.going.i o c.going-test.true c.requires.children) in
     let smaller = slot_lower trees c.facts.ensures.fits c.facts.ensures.linked c.args.id c.requires.over.made o node in
     (omega (arith, c.decreases, smaller), ((c.args.id, c.requires.over, node), (c.requires.tree, c.requires.alike)))
 
@@ -123,6 +124,18 @@ read_in_place-slice_bounds-add_in_place-end t c =
     let e = stay.even c.args.displaced c.args.old.now (λ o. first_node (list_of trees o)) c.args.fibers.now c.requires.same in
     sym (length-take-le c.going.i c.args.old.now (omega (arith, e, c.going-test.true)))
 
+pub read_in_place-slice_bounds-leave_out-end : goal.read_in_place-slice_bounds-leave_out-end
+read_in_place-slice_bounds-leave_out-end t c =
+    let trees = c.args.tree.now in
+    let e = stay.even c.args.displaced c.args.old.now (λ o. first_node (list_of trees o)) c.args.fibers.now c.requires.same in
+    sym (length-take-le c.going.i c.args.old.now (omega (arith, e, c.going-test.true)))
+
+pub read_in_place-bounds-old-i-else-is_left : goal.read_in_place-bounds-old-i-else-is_left
+read_in_place-bounds-old-i-else-is_left t c =
+    let trees = c.args.tree.now in
+    let e = stay.even c.args.displaced c.args.old.now (λ o. first_node (list_of trees o)) c.args.fibers.now c.requires.same in
+    omega (arith, e, c.going-test.true)
+
 pub read_in_place-bounds-old-i : goal.read_in_place-bounds-old-i
 read_in_place-bounds-old-i t c =
     let trees = c.args.tree.now in
@@ -131,13 +144,26 @@ read_in_place-bounds-old-i t c =
 
 pub read_in_place-going-preserved : goal.read_in_place-going-preserved
 read_in_place-going-preserved t c =
-    let trees = c.args.tree.now in
-    let r = stay.step c.args.displaced c.args.old.now (λ o. first_node (list_of trees o)) c.args.fibers.now c.requires.same c.going.i c.going-test.true
-    c.index-fibers-i.result c.index-old-i.result c.index-fibers-i.is c.index-old-i.is
-    _ c.going.lists.pruned c.add_in_place.new.lists.pruned _ c.in_ok-slot.slot.tree c.in_ok-slot.slot.pruned c.in_ok-slot.slot.left c.going.invariant.tree c.going.invariant.walked
-    c.in_ok-slot.ensures.tree c.in_ok-slot.ensures.pruned c.in_ok-slot.ensures.left
-    c.in_ok-add_in_place.ensures.tree c.in_ok-add_in_place.ensures.pruned_old c.in_ok-add_in_place.ensures.pruned_new in
-    record { tree = r.0; walked = r.1 }
+    let f : Option ℕ → Option Node = λ o. first_node (list_of c.args.tree.now o) in
+    let os = c.args.old.now in
+    let i = c.going.i in
+    elim c.if-is_left.branch [
+      | read_in_place-then-is_left+in_ok-copy_node+in_ok-leave_out w ↦
+          let r = stay.left_step c.args.displaced os f c.args.fibers.now c.requires.same i c.going-test.true
+          c.index-fibers-i.result w.index-old-i.result c.index-fibers-i.is w.index-old-i.is
+          _ c.going.lists.pruned w.leave_out.new.lists.pruned _ w.in_ok-copy_node.field-0 c.going.invariant.tree c.going.invariant.walked
+          w.in_ok-copy_node.ensures (c.is_left.ensures w.if-is_left.true)
+          w.in_ok-leave_out.ensures.tree (w.in_ok-leave_out.ensures.pruned_old (take i os ++ w.index-old-i.result ∷ [])) w.in_ok-leave_out.ensures.pruned_new in
+          rw w.lists-is (record { tree = r.0; walked = r.1 })
+      | read_in_place-else-is_left+in_ok-slot+in_ok-add_in_place w ↦
+          let slot = w.in_ok-slot.slot in
+          let r = stay.step c.args.displaced os f c.args.fibers.now c.requires.same i c.going-test.true
+          w.index-fibers-i-else-is_left.result w.index-old-i-else-is_left.result w.index-fibers-i-else-is_left.is w.index-old-i-else-is_left.is
+          _ c.going.lists.pruned w.add_in_place.new.lists.pruned _ slot.tree slot.pruned slot.left c.going.invariant.tree c.going.invariant.walked
+          w.in_ok-slot.ensures.tree w.in_ok-slot.ensures.pruned w.in_ok-slot.ensures.left
+          w.in_ok-add_in_place.ensures.tree w.in_ok-add_in_place.ensures.pruned_old w.in_ok-add_in_place.ensures.pruned_new in
+          rw w.lists-is (record { tree = r.0; walked = r.1 })
+    ]
 
 pub read_in_place-returns-clause-tree : goal.read_in_place-returns-clause-tree
 read_in_place-returns-clause-tree t c =
