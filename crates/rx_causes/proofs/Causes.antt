@@ -4,7 +4,8 @@ use Rattle.std.proofs.Common.{refl, sym, ap, ◌∙◌, subst, inl, inr}
 use Rattle.rx_base.specs.Awaits.{Awaits}
 use Rattle.rx_base.specs.declared.cut.Cut.{Cut}
 use Rattle.rx_lane.specs.Lanes.{Lanes}
-use Rattle.rx_elem.specs.Trees.{Instance, Mark, Node, instance_in, is_hidden, mark_of, of_boundary, of_catcher, of_host, of_instance, plain}
+use Rattle.rx_elem.specs.Trees.{Instance, Mark, Node, instance_in, is_hidden, mark_of, node, of_boundary, of_catcher, of_host, of_instance, plain}
+use Rattle.rx_elem.specs.Trees as trees
 use Rattle.rx_susp.specs.declared.boundary.BoundaryState.TheVariants.{Hidden, Shown}
 use Rattle.rx_queue.specs.History.{Answers}
 use Rattle.rx_hooks.specs.declared.hook.Hook.{Hook}
@@ -22,12 +23,12 @@ use Rattle.rx_fiber.specs.Fibers.{Fiber}
 use Rattle.rx_fiber.specs.Reading.{IsFor, whole, alone, beside, IsOld, new, of, next}
 use Rattle.rx_hook_store.specs.Gives.{GivesValues, has_work_in}
 use Rattle.rx_causes.specs.declared.scene.Scene.{Scene}
-use Rattle.rx_causes.specs.Marks.{begun_mark, keeps_children, mark_at, EachBut, EachFiber, EachFiberBut, SomeFiber, SomeNode}
+use Rattle.rx_causes.specs.Marks.{begun_mark, keeps_children, mark_at, EachBut, EachFiber, EachFiberBut, IsFreeOver, SomeFiber, SomeNode, is_spared}
 use Rattle.rx_causes.specs.Scenes.{GivesHooks, KeepsHooks, TellsCalm, read_another}
 use Rattle.rx_causes.specs.Hidden.{ForEach, KeepsHooksIf}
 use Rattle.rx_causes.specs.Idle.{HasNoCause, HasNoCauseAt, HasNoWork, KeepsTree, LeadsAt, Rests, is_anew}
 use Rattle.rx_causes.proofs.Marks.{mark_is}
-use Rattle.rx_causes.proofs.Walks.{at_node, of_fiber, each_but, each_covered, each_fiber, some_node, no_but, no_marks}
+use Rattle.rx_causes.proofs.Walks.{at_node, of_fiber, each_but, each_covered, each_fiber, some_node, spared, no_but, no_marks}
 use Rattle.rx_causes.proofs.Still.{keeps_none}
 
 -- The fiber of an old node
@@ -121,6 +122,12 @@ module _ (kept : ℕ → Option (List Hook)) (lanes : Lanes) (cut : Cut) where
     node_idle way n _ _ rest (beside {v = v} {m = m} is hidden some a s f) h gives covers =
         absurd (let f = no_cause_shown m (of_fiber (HasNoCauseAt kept lanes cut) v m is.stage h.0) in let q : ⊥ = cc in q)
 
+    -- so is one whose fiber is that of an instance on no way, by the ways
+    spared_idle : (way : ℕ → Bool) (n : ℕ) (x : Node) (i : ℕ) (v : Fiber) (below behind rest : Shape Fiber) → IsFor n x (fiber i v below behind) rest → is_spared way (begun_mark v.stage) ≡ true → Covers way (IsIdleMark s) x → IsIdle s x
+    spared_idle way n _ _ _ _ _ rest (whole {v = v} {e = e} {m = m} {ns = ns} is shown a) off covers = spared way (IsIdleMark s) v m (node e m ns trees.none) is.stage off covers.0
+    spared_idle way n _ _ _ _ _ rest (alone {v = v} {e = e} {m = m} {ns = ns} {fs = fs} is falling gone a) off covers = spared way (IsIdleMark s) v m (node e m ns fs) is.stage off covers.0
+    spared_idle way n _ _ _ _ _ rest (beside {v = v} {e = e} {m = m} {ns = ns} {fs = fs} is hidden some a w f) off covers = spared way (IsIdleMark s) v m (node e m ns fs) is.stage off covers.0
+
   mark_rests : (m : Mark) → HasNoCause kept lanes cut m → Rests kept lanes cut m
   mark_rests (of_instance i) h = (subst IsSome (sym h.is_numbered) refl, h.tells)
   mark_rests (of_host n) h = tt
@@ -136,6 +143,12 @@ module _ (kept : ℕ → Option (List Hook)) (lanes : Lanes) (cut : Cut) where
       inr (mark_rests m (of_fiber (HasNoCauseAt kept lanes cut) v m is.stage h.0), no_but way (Rests kept lanes cut) ns gone, each_but way (HasNoCauseAt kept lanes cut) (Rests kept lanes cut) mark_rests 0 fs ks a h.1)
   node_rests way n _ _ rest (beside {v = v} {m = m} is hidden some a s f) h =
       absurd (let f = no_cause_shown m (of_fiber (HasNoCauseAt kept lanes cut) v m is.stage h.0) in let q : ⊥ = cc in q)
+
+-- one whose fiber is that of an instance on no way is passed itself
+spared_rests : (way : ℕ → Bool) (Q : Mark → Type 0) (n : ℕ) (x : Node) (i : ℕ) (v : Fiber) (below behind rest : Shape Fiber) → IsFor n x (fiber i v below behind) rest → is_spared way (begun_mark v.stage) ≡ true → EachBut way Q x
+spared_rests way Q n _ _ _ _ _ rest (whole is shown a) off = inl (ap (is_spared way) (sym (ap begun_mark is.stage)) ∙ off)
+spared_rests way Q n _ _ _ _ _ rest (alone is falling gone a) off = inl (ap (is_spared way) (sym (ap begun_mark is.stage)) ∙ off)
+spared_rests way Q n _ _ _ _ _ rest (beside is hidden some a w f) off = inl (ap (is_spared way) (sym (ap begun_mark is.stage)) ∙ off)
 
 -- a component's instance that reads nothing anew, and has no work, is calm
 pub calm_without : (kept : ℕ → Option (List Hook)) (scene : Scene) (cs : Contexts) (m : Option Mark) (component : Bool) → component ≡ true → is_anew scene component cs (option_and_then instance_in m) ≡ false
@@ -192,17 +205,23 @@ module _ (c : Shape Fiber) (o : Option ℕ) (i : ℕ) (o_is : o ≡ Some i) (v :
 
   module _ (lanes : Lanes) (cut : Cut) (x : Node) (was : IsOld c o (Some x)) where
     -- it is idle if none of them has a cause, but for those that are passed
-    pub tree_idle : (way : ℕ → Bool) → HasNoCauseAt kept lanes cut (begun_mark v.stage) → EachFiberBut way (HasNoCauseAt kept lanes cut) below → (s : Sight) → s.lanes ≡ lanes → s.cut ≡ cut
+    pub tree_idle : (way : ℕ → Bool) → IsFreeOver way (HasNoCauseAt kept lanes cut) (begun_mark v.stage) below → (s : Sight) → s.lanes ≡ lanes → s.cut ≡ cut
         → ForEach (GivesHooks s kept) x → Covers way (IsIdleMark s) x → IsIdle s x
-    tree_idle way own more s lanes_are cut_is gives covers =
+    tree_idle way free s lanes_are cut_is gives covers =
         let (n, rest, is) = old_list c o x i (fiber i v below behind) was o_is list in
-        node_idle kept lanes cut s lanes_are cut_is way n x (fiber i v below behind) rest is (own, more) gives covers
+        elim free.1 [
+          | inl off ↦ spared_idle kept lanes cut s lanes_are cut_is way n x i v below behind rest is off covers
+          | inr more ↦ node_idle kept lanes cut s lanes_are cut_is way n x (fiber i v below behind) rest is (free.0, more) gives covers
+        ]
 
     -- each of its nodes rests then, but for those that are passed
-    pub tree_rests : (way : ℕ → Bool) → HasNoCauseAt kept lanes cut (begun_mark v.stage) → EachFiberBut way (HasNoCauseAt kept lanes cut) below → EachBut way (Rests kept lanes cut) x
-    tree_rests way own more =
+    pub tree_rests : (way : ℕ → Bool) → IsFreeOver way (HasNoCauseAt kept lanes cut) (begun_mark v.stage) below → EachBut way (Rests kept lanes cut) x
+    tree_rests way free =
         let (n, rest, is) = old_list c o x i (fiber i v below behind) was o_is list in
-        node_rests kept lanes cut way n x (fiber i v below behind) rest is (own, more)
+        elim free.1 [
+          | inl off ↦ spared_rests way (Rests kept lanes cut) n x i v below behind rest is off
+          | inr more ↦ node_rests kept lanes cut way n x (fiber i v below behind) rest is (free.0, more)
+        ]
 
     -- one of its nodes leads to a cause if one of them does
     pub tree_cause : (way : ℕ → Bool) → LeadsAt way kept lanes cut (begun_mark v.stage) ⊎ SomeFiber (LeadsAt way kept lanes cut) below

@@ -97,7 +97,7 @@ module _ (way : ℕ → Bool) where
       off false e = refl
 
   -- of a node whose fiber is passed all is told by the ways
-  spared : (Q : Mark → Type 0) (v : Fiber) (m : Mark) (x : Node) → v.stage ≡ begun m → is_spared way (begun_mark v.stage) ≡ true → CoversHere way Q m x → ForEach Q x
+  pub spared : (Q : Mark → Type 0) (v : Fiber) (m : Mark) (x : Node) → v.stage ≡ begun m → is_spared way (begun_mark v.stage) ≡ true → CoversHere way Q m x → ForEach Q x
   spared Q v m x is off covers = let (n, number, away) = numbered_off (number_of m) (ap (is_spared way) (sym (ap begun_mark is)) ∙ off) in covers n number away
 
   fallback_kept : (w : Fiber) (a : Awaits) → w.stage ≡ fallback a → is_spared way (begun_mark w.stage) ≡ true → ⊥

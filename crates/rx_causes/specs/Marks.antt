@@ -66,6 +66,10 @@ abbrev pub EachFiberBut : (way : ℕ → Bool) → (Option Mark → Type 0) → 
 EachFiberBut way P shapes.none = Unit {0}
 EachFiberBut way P (fiber id v ks rs) = ((is_spared way (begun_mark v.stage) ≡ true) ⊎ (P (begun_mark v.stage) × EachFiberBut way P ks)) × EachFiberBut way P rs
 
+-- this holds of the mark of a fiber over these; and of each of these but for instances that stand on no way, unless the fiber is such a one's
+abbrev pub IsFreeOver : (way : ℕ → Bool) → (Option Mark → Type 0) → Option Mark → (below : Shape Fiber) → Type 0
+IsFreeOver way P m below = P m × ((is_spared way m ≡ true) ⊎ EachFiberBut way P below)
+
 -- it holds of the mark of some fiber
 abbrev pub SomeFiber : (Option Mark → Type 0) → Shape Fiber → Type 0
 SomeFiber P shapes.none = ⊥

@@ -1,11 +1,13 @@
 // What an old node's current fiber and those below it have as a cause to be rendered.
-ghost use Rattle.std.specs.Prelude.{◌≡◌, true, false, Some, IfSome, IsSome, option_and_then, option_map};
+ghost use Rattle.std.specs.Prelude.{◌≡◌, true, false, Some, ◌⊎◌, IfSome, IsSome, option_and_then, option_map};
 ghost use Rattle.rx_elem.specs.Trees.{Node, instance_in};
-ghost use Rattle.rx_lists.specs.Shapes.{Holds};
-ghost use Rattle.rx_links.specs.Readers.{list_from};
+ghost use Rattle.rx_lists.specs.Shapes.{first, Holds};
+ghost use Rattle.rx_links.specs.Drafts.{kids_of};
+ghost use Rattle.rx_links.specs.Readers.{list_from, value_of};
 ghost use Rattle.rx_meaning.specs.Fresh.{Sight};
 ghost use Rattle.rx_meaning.specs.Settled.{number_of};
 ghost use Rattle.commit_laws.specs.Idle.{IsIdle, IsIdleMark};
+ghost use Rattle.rx_fiber.specs.Fibers as fibers;
 ghost use Rattle.rx_fiber.specs.FiberView.{stage_seen};
 ghost use Rattle.rx_node.specs.MarkView.{mark_seen};
 ghost use Rattle.rx_fiber.specs.Reading.{IsOld};
@@ -13,7 +15,7 @@ ghost use Rattle.rx_fiber.specs.Subtrees.{IsGathered};
 ghost use Rattle.rx_ways.specs.Ways.{Covers, is_way};
 ghost use Rattle.rx_hook_store.specs.Store.{kept_hooks};
 ghost use Rattle.rx_causes.specs.declared.idle.Turn.TheVariants as turn;
-ghost use Rattle.rx_causes.specs.Marks.{begun_mark, keeps_children, mark_at, EachBut, EachFiberBut, SomeFiber, is_passed};
+ghost use Rattle.rx_causes.specs.Marks.{begun_mark, keeps_children, mark_at, EachBut, EachFiberBut, IsFreeOver, SomeFiber, is_free, is_passed};
 ghost use Rattle.rx_causes.specs.Scenes.{GivesHooks, IsSceneOf, KeepsHooks, TellsCalm};
 ghost use Rattle.rx_causes.specs.Hidden.{ForEach, ForEachFiber, instance_at};
 ghost use Rattle.rx_causes.specs.Idle.{HasCause, HasCauseAt, HasCauseIn, LeadsAt, HasNoCause, HasNoCauseAt, KeepsTree, Rests, is_anew};
@@ -21,7 +23,7 @@ ghost use Rattle.rx_causes.specs.Idle.{HasCause, HasCauseAt, HasCauseIn, LeadsAt
 use crate::reading::read_another;
 use crate::scene::Scene;
 use rx_base::Int;
-use rx_fiber::{Fiber, Stage};
+use rx_fiber::{Fiber, Stage, Subtree};
 use rx_hook_store::HookStore;
 use rx_links::{FiberId, FiberTree};
 use rx_node::Mark;
@@ -64,6 +66,13 @@ fn on_way(stage: &Stage, scene: &Scene) -> Option<bool>
     }
 }
 
+// Whether neither an instance nor a hidden boundary is at or below a fiber that keeps this.
+fn is_free(below: Subtree) -> bool
+    ensures { result ≡ is_free below }
+{
+    !(below.instances || below.hides)
+}
+
 // How the walk for a cause goes on at a fiber.
 enum Turn {
     // The fiber is passed, with all below it.
@@ -82,8 +91,7 @@ fn turn_at(fiber: &Fiber, scene: &Scene, hooks: &HookStore) -> Turn
     ensures leads { result ≡ turn.Cause → LeadsAt (is_way scene.now.ways.now) (kept_hooks hooks.now) scene.now.lanes scene.now.cut (begun_mark fiber.now.stage) }
     ensures none { result ≡ turn.Below → HasNoCauseAt (kept_hooks hooks.now) scene.now.lanes scene.now.cut (begun_mark fiber.now.stage) }
 {
-    let below = fiber.subtree();
-    if !(below.instances || below.hides) {
+    if is_free(fiber.subtree()) {
         return Turn::Pass;
     }
     match on_way(fiber.stage(), scene) {
@@ -125,6 +133,32 @@ fn any_cause(
     false
 }
 
+// Whether a current fiber or one below it leads to a cause. What is free has none; an instance on a way leads to one, and one on no way
+// has none below it, so that its own work alone is asked for.
+fn leads_to_cause(tree: &FiberTree<Fiber>, id: FiberId, scene: &Scene, hooks: &HookStore) -> bool
+    requires held { Holds tree.now.current id }
+    requires gathered { IsGathered tree.now.current }
+    requires own { (v : fibers.Fiber) → Some v ≡ value_of tree.now.current id → KeepsHooks (kept_hooks hooks.now) (instance_at v.stage) }
+    requires below { ForEachFiber (KeepsHooks (kept_hooks hooks.now)) (list_from tree.now.current (first (kids_of tree.now.current id))) }
+    ensures none { result ≡ false → (v : fibers.Fiber) → Some v ≡ value_of tree.now.current id
+        → IsFreeOver (is_way scene.now.ways.now) (HasNoCauseAt (kept_hooks hooks.now) scene.now.lanes scene.now.cut) (begun_mark v.stage) (list_from tree.now.current (first (kids_of tree.now.current id))) }
+    ensures some { result ≡ true → (v : fibers.Fiber) → Some v ≡ value_of tree.now.current id
+        → LeadsAt (is_way scene.now.ways.now) (kept_hooks hooks.now) scene.now.lanes scene.now.cut (begun_mark v.stage)
+        ⊎ SomeFiber (LeadsAt (is_way scene.now.ways.now) (kept_hooks hooks.now) scene.now.lanes scene.now.cut) (list_from tree.now.current (first (kids_of tree.now.current id))) }
+{
+    tree.facts();
+    let fiber = tree.value(id);
+    if is_free(fiber.subtree()) {
+        return false;
+    }
+    match on_way(fiber.stage(), scene) {
+        Some(true) => true,
+        Some(false) => has_cause(fiber.stage(), scene, hooks),
+        None if has_cause(fiber.stage(), scene, hooks) => true,
+        None => any_cause(tree, tree.first_child(id), scene, hooks),
+    }
+}
+
 // Whether the instance of a fiber read a context that has another value here, or a resource that the render sees in another version;
 // a component's place is anew if it has none.
 fn is_anew(stage: &Stage, component: bool, scene: &Scene, contexts: &[Int]) -> bool
@@ -137,10 +171,10 @@ fn is_anew(stage: &Stage, component: bool, scene: &Scene, contexts: &[Int]) -> b
 }
 
 /// Whether nothing in the tree of an old node, by its current fiber, has a cause to be rendered here: the node's own instance
-/// reads what it read and has no work, no instance below stands on a way, and no boundary there is hidden. Instances on no way
-/// are passed, with all below them: if the ways cover the tree, there is no cause there. So is what has no instance and no
-/// hidden boundary at or below it, as its fiber keeps (React: `subtreeFlags`). An instance on a way has a cause at it or below,
-/// and is looked at no further. It answers false if there is no old node.
+/// reads what it read, has no work and stands on no way, no instance below stands on a way, and no boundary there is hidden.
+/// Instances on no way are passed, with all below them: if the ways cover the tree, there is no cause there. So is what has no
+/// instance and no hidden boundary at or below it, as its fiber keeps (React: `subtreeFlags`). An instance on a way has a cause
+/// at it or below, and is looked at no further. It answers false if there is no old node.
 pub fn is_idle(
     tree: &FiberTree<Fiber>,
     old: Option<FiberId>,
@@ -162,10 +196,8 @@ pub fn is_idle(
     tree.facts();
     match old {
         Some(id) => {
-            let stage = tree.value(id).stage();
-            !is_anew(stage, component, scene, contexts)
-                && !has_cause(stage, scene, hooks)
-                && !any_cause(tree, tree.first_child(id), scene, hooks)
+            !is_anew(tree.value(id).stage(), component, scene, contexts)
+                && !leads_to_cause(tree, id, scene, hooks)
         }
         None => false,
     }
