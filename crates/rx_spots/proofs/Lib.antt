@@ -3,3 +3,5 @@ mod Counting
 pub mod Waiting
 mod Mounting
 mod Nothing
+mod SameInstances
+mod Among

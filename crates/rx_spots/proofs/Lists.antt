@@ -1,6 +1,7 @@
 -- Lists of places from a place on.
-use Rattle.std.proofs.Common.{◌≡◌, ℕ, zero, suc, ◌+◌, ◌<◌, ◌≤◌, List, [], ◌∷◌, Option, Some, None, length, get_or, drop, refl, sym, ap, ◌∙◌, arith, add-one}
+use Rattle.std.proofs.Common.{◌≡◌, ℕ, true, nat_eq, zero, suc, ◌+◌, ◌<◌, ◌≤◌, List, [], ◌∷◌, Option, Some, None, length, get_or, drop, refl, sym, ap, ◌∙◌, arith, add-one}
 use Rattle.std.proofs.Math.Seq.{drop-cons}
+use Rattle.std.proofs.lemmas.Bool.Decides.{nat_tests}
 use Rattle.rx_elem.specs.Trees.{Node, forest, height, height_in}
 
 -- what is left begins with the element at the place
@@ -21,3 +22,7 @@ height-get (None ∷ ns) zero o n h e f = absurd (cc)
 height-get (Some m ∷ ns) zero o n h e f = let g : m ≡ n = cc in omega (arith, ap height g)
 height-get (None ∷ ns) (suc k) o n h e f = height-get ns k o n (omega arith) e f
 height-get (Some m ∷ ns) (suc k) o n h e f = omega (arith, height-get ns k o n (omega arith) e f)
+
+-- what is tested to be one number is one
+pub same_number : (a b : ℕ) → nat_eq a b ≡ true → a ≡ b
+same_number a b e = grind (arith, nat_tests)

@@ -1,6 +1,7 @@
 // An instance of a tree.
 ghost use Rattle.std.specs.Prelude.{◌≡◌, Some, IfOk};
 ghost use Rattle.rx_elem.specs.Spots.{mounted_as};
+ghost use Rattle.rx_elem.specs.Spots as spots;
 ghost use Rattle.rx_node.specs.MarkView.{instance_seen};
 
 use crate::around::Around;
@@ -74,13 +75,29 @@ impl Mounted {
     pub fn new(instance: &Instance, number: u64, around: Around) -> Result<Mounted, AllocError>
         ensures { IfOk result (λ m. Some m ≡ mounted_as around (record (instance_seen instance.now) { number = Some number })) }
     {
+        Mounted::below(instance, number, around.owner(), around.is_visible())
+    }
+
+    /// The instance of this number below an owner, visible or not.
+    ///
+    /// # Errors
+    ///
+    /// Only if out of memory.
+    pub(crate) fn below(
+        instance: &Instance,
+        number: u64,
+        owner: Option<u64>,
+        visible: bool,
+    ) -> Result<Mounted, AllocError>
+        ensures { IfOk result (λ m. (a : spots.Around) → a.owner ≡ owner → a.visible ≡ visible → Some m ≡ mounted_as a (record (instance_seen instance.now) { number = Some number })) }
+    {
         let initials = instance.initials.clone()?;
         Ok(Mounted {
             number,
             component: instance.component,
             initials,
-            owner: around.owner(),
-            visible: around.is_visible(),
+            owner,
+            visible,
         })
     }
 }
