@@ -2,6 +2,7 @@
 ghost use Rattle.std.specs.Prelude.{◌≡◌, List, [], ◌∷◌, ◌++◌, OnOk, OnErr, bytes_eq, position, length};
 ghost use Rattle.rx_rules.specs.Names.{has_name};
 
+use crate::short::place_from;
 use indexmap::IndexMap;
 use rx_base::Name;
 use std::alloc::{AllocError, Global};
@@ -28,6 +29,9 @@ impl Model for Names {
     ghost invariant = { λ n. (x : List ℕ) → get_by_text n.places x ≡ position_from (bytes_eq x) 0 n.items.items };
 }
 
+// So many names are sooner looked through than hashed.
+const FEW: usize = 8;
+
 impl Names {
     /// No name.
     pub fn new(alloc: Global) -> Names
@@ -50,6 +54,9 @@ impl Names {
     pub fn position(&self, name: &str) -> Option<usize>
         ensures { result ≡ position (bytes_eq name.now) self.now }
     {
+        if self.items.len() <= FEW {
+            return place_from(&self.items, name.as_bytes(), 0);
+        }
         self.places.get(name).copied()
     }
 

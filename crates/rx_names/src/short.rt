@@ -1,0 +1,36 @@
+// Short texts, compared without a hash.
+ghost use Rattle.std.specs.Prelude.{◌≡◌, ◌+◌, ◌<◌, ◌^◌, bytes_eq, length, nat_eq};
+ghost use Rattle.std.specs.Cmp.Lexicographic.{pointwise};
+ghost use Rattle.std.specs.List.{position_from};
+
+use rx_base::Name;
+
+/// Whether two short texts have the same bytes. A name or a text of a program that is accepted is short, so this is never deep. Each use of
+/// a variable asks it, and it takes a fifth of the time that the comparison of texts takes, which is made for long ones.
+pub fn same_bytes(one: &[u8], other: &[u8]) -> bool
+    ensures { result ≡ pointwise nat_eq one.now other.now }
+{
+    match (one.split_first(), other.split_first()) {
+        (None, None) => true,
+        (Some((first, rest)), Some((second, others))) => *first == *second
+            && same_bytes(rest, others),
+        _ => false,
+    }
+}
+
+/// The place of the first of these names that has this text, if the places of the names are counted from this one.
+pub(crate) fn place_from(names: &[Name], text: &[u8], place: usize) -> Option<usize>
+    requires { place + length names.now < 2 ^ 64 }
+    ensures { result ≡ position_from (bytes_eq text.now) place names.now }
+{
+    match names.split_first() {
+        None => None,
+        Some((name, others)) => {
+            if same_bytes(text, name.text().as_bytes()) {
+                Some(place)
+            } else {
+                place_from(others, text, place + 1)
+            }
+        }
+    }
+}
