@@ -128,7 +128,6 @@ pub(crate) fn add_gone(
 }
 
 // Goes on with the layout effects that a node's old children destroy if it hides them, and was a boundary that showed them.
-#[inline(never)]
 fn add_hidden(alloc: Global, lines: &mut Vec<LogLine>, change: &Step) -> Result<(), AllocError>
     ensures { OnOk result (lines.new.items ≡ lines.old.items ++ destroyed_by_hiding layout (step_seen at_root change.now).was_visible (step_seen at_root change.now).old) }
 {
@@ -142,7 +141,6 @@ fn add_hidden(alloc: Global, lines: &mut Vec<LogLine>, change: &Step) -> Result<
 }
 
 // Goes on with what a node's old children destroy if it hides them, if that is logged.
-#[inline]
 pub(crate) fn add_hiding(
     alloc: Global,
     found: &mut Changes,

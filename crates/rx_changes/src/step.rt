@@ -76,7 +76,6 @@ impl<'a> Step<'a> {
     }
 
     // Whether the old node was a hidden boundary.
-    #[inline(always)]
     fn was_hidden(&self) -> bool
         ensures { result ≡ was_hidden (step_seen at_root self.now).old }
     {
@@ -87,7 +86,6 @@ impl<'a> Step<'a> {
     }
 
     // What it hands down to its children; a boundary to its primary. What a hidden boundary keeps logs nothing.
-    #[inline(always)]
     pub(crate) fn level_below(&self) -> Level
         ensures is { (a : Around) → level_seen (around_children a (mark_of (step_seen a self.now).new)) result ≡ above_children (step_seen a self.now) }
         ensures logs { result.logs ≡ (self.now.logs && not (is_hidden (mark_of (step_seen at_root self.now).new))) }

@@ -164,7 +164,6 @@ fn add_children(alloc: Global, found: &mut Changes, change: &Step) -> Result<(),
 
 // Goes on with all below a node: what is gone of its children, these, what hiding them does, and its fallback.
 #[cycle(walk)]
-#[inline(never)]
 fn add_both(alloc: Global, found: &mut Changes, change: &Step) -> Result<(), AllocError>
     ensures { OnOk result ((a : Around) → changes_seen found.new ≡ with_below change.now.logs (step_seen a change.now) (changes_seen found.old)) }
 {

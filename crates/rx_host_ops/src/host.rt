@@ -1,9 +1,9 @@
 // A host of a tree.
 ghost use Rattle.std.specs.Prelude.{◌≡◌, Some, IfOk, is_some, option_map};
+ghost use Rattle.rx_elem.specs.Spots.{Around};
 ghost use Rattle.rx_forest.specs.Hosts.{content_of, host_as};
 
 use rx_elem::{Element, ElementKind};
-use rx_spots::Around;
 use std::alloc::AllocError;
 use std::marker::Model;
 
@@ -41,13 +41,14 @@ fn is_shown(element: &Element) -> bool
 }
 
 impl Host {
-    // The host of this number and element, by what surrounds it; another element stands for none.
-    pub(crate) fn at(
-        around: Around,
+    // The host of this number and element below its parent, hidden there or not; another element stands for none.
+    pub(crate) fn below(
+        parent: u64,
+        concealed: bool,
         number: u64,
         element: &Element,
     ) -> Result<Option<Host>, AllocError>
-        ensures { IfOk result (λ h. h ≡ option_map (host_as around number) (content_of element.now)) }
+        ensures { IfOk result (λ h. (a : Around) → a.host ≡ parent → a.concealed ≡ concealed → h ≡ option_map (host_as a number) (content_of element.now)) }
     {
         if !is_shown(element) {
             return Ok(None);
@@ -55,8 +56,8 @@ impl Host {
         let element = element.copy()?;
         Ok(Some(Host {
             number,
-            parent: around.host(),
-            hidden: around.is_concealed(),
+            parent,
+            hidden: concealed,
             element,
         }))
     }

@@ -2,22 +2,50 @@
 ghost use Rattle.std.specs.Prelude.{◌≡◌, ◌++◌, [], IfOk, OnOk, filter_map};
 ghost use Rattle.std.specs.List.{cons_option};
 ghost use Rattle.std.specs.Option.{option_copied};
-ghost use Rattle.rx_elem.specs.Spots.{spots, spots_in};
+ghost use Rattle.rx_elem.specs.Spots.{Around, around_children, spots, spots_in};
 ghost use Rattle.rx_elem.specs.Trees.{forest};
 ghost use Rattle.rx_forest.specs.Hosts.{host_at};
 ghost use Rattle.rx_forest.specs.Hosts as listed;
+ghost use Rattle.rx_node.specs.MarkView.{mark_seen};
 
 use crate::host::Host;
 use rx_node::{Mark, Node};
-use rx_spots::Around;
+use rx_susp::BoundaryState;
 use std::alloc::{AllocError, Global};
 
+// The nearest host above the children of a node with this mark.
+fn parent_below(mark: &Mark, parent: u64) -> u64
+    ensures { (a : Around) → a.host ≡ parent → (around_children a (mark_seen mark.now)).host ≡ result }
+{
+    match mark {
+        Mark::Host(Some(number)) => *number,
+        _ => parent,
+    }
+}
+
+// Whether a kept primary lies between that host and the children of a node with this mark.
+fn concealed_below(mark: &Mark, concealed: bool) -> bool
+    ensures { (a : Around) → a.concealed ≡ concealed → (around_children a (mark_seen mark.now)).concealed ≡ result }
+{
+    match mark {
+        Mark::Host(Some(_)) => false,
+        Mark::Boundary(BoundaryState::Hidden(_)) => true,
+        _ => concealed,
+    }
+}
+
 // Adds the host of a node, if it is one and has a number.
-fn add_own(node: &Node, around: Around, found: &mut Vec<Host>) -> Result<(), AllocError>
-    ensures { OnOk result (found.new.items ≡ found.old.items ++ cons_option (host_at (record { at = node.now; around = around })) []) }
+fn add_own(
+    node: &Node,
+    parent: u64,
+    concealed: bool,
+    found: &mut Vec<Host>,
+) -> Result<(), AllocError>
+    ensures { OnOk result ((a : Around) → a.host ≡ parent → a.concealed ≡ concealed
+        → found.new.items ≡ found.old.items ++ cons_option (host_at (record { at = node.now; around = a })) []) }
 {
     if let Mark::Host(Some(number)) = node.mark() {
-        if let Some(host) = Host::at(around, *number, node.element())? {
+        if let Some(host) = Host::below(parent, concealed, *number, node.element())? {
             found.push(host)?;
         }
     }
@@ -26,21 +54,39 @@ fn add_own(node: &Node, around: Around, found: &mut Vec<Host>) -> Result<(), All
 
 // Adds the hosts of a node and below.
 #[cycle(reading)]
-fn add_from(node: &Node, around: Around, found: &mut Vec<Host>) -> Result<(), AllocError>
-    ensures { OnOk result (found.new.items ≡ found.old.items ++ filter_map host_at (spots around node.now)) }
+fn add_from(
+    node: &Node,
+    parent: u64,
+    concealed: bool,
+    found: &mut Vec<Host>,
+) -> Result<(), AllocError>
+    ensures { OnOk result ((a : Around) → a.host ≡ parent → a.concealed ≡ concealed
+        → found.new.items ≡ found.old.items ++ filter_map host_at (spots a node.now)) }
 {
-    add_own(node, around, found)?;
-    add_in(node.children(), around.below(node.mark()), found)?;
-    add_in(node.fallback(), around, found)
+    add_own(node, parent, concealed, found)?;
+    let mark = node.mark();
+    add_in(
+        node.children(),
+        parent_below(mark, parent),
+        concealed_below(mark, concealed),
+        found,
+    )?;
+    add_in(node.fallback(), parent, concealed, found)
 }
 
 #[cycle(reading)]
-fn add_in(places: &[Option<Node>], around: Around, found: &mut Vec<Host>) -> Result<(), AllocError>
-    ensures { OnOk result (found.new.items ≡ found.old.items ++ filter_map host_at (spots_in around (forest places.now))) }
+fn add_in(
+    places: &[Option<Node>],
+    parent: u64,
+    concealed: bool,
+    found: &mut Vec<Host>,
+) -> Result<(), AllocError>
+    ensures { OnOk result ((a : Around) → a.host ≡ parent → a.concealed ≡ concealed
+        → found.new.items ≡ found.old.items ++ filter_map host_at (spots_in a (forest places.now))) }
 {
     for place in places {
         if let Some(node) = place {
-            add_from(node, around, found)?;
+            add_from(node, parent, concealed, found)?;
         }
     }
     Ok(())
@@ -57,7 +103,7 @@ pub fn hosts(alloc: Global, tree: Option<&Node>) -> Result<Vec<Host>, AllocError
 {
     let mut found = Vec::new(alloc);
     if let Some(node) = tree {
-        add_from(node, Around::at_root(), &mut found)?;
+        add_from(node, 0, false, &mut found)?;
     }
     Ok(found)
 }
