@@ -22,8 +22,8 @@ use Rattle.rx_settle.specs.Made.{AreMadeFor, AreOfNew, kept_with}
 use Rattle.rx_settle.proofs.Again.{goes_on_before, renders_before}
 use Rattle.rx_settle.proofs.Kept.{neither, other_than, other_way}
 use Rattle.rx_settle.proofs.Making.{elsewhere_stays, old_or_last, or_left, or_right}
-use Rattle.rx_settle.proofs.Numbers.{is_there}
-use Rattle.rx_settle.proofs.Whole.{all_settled, has_itself, one_instance}
+use Rattle.rx_settle.proofs.Numbers.{has_itself, is_there}
+use Rattle.rx_settle.proofs.Whole.{all_settled, one_instance}
 
 -- ---- one instance more
 

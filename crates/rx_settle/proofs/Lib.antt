@@ -6,3 +6,4 @@ mod Apart
 mod Numbers
 mod Whole
 mod Found
+mod Staying

@@ -1,5 +1,6 @@
 -- How often a number stands among the instances of a tree, and of a tree without what stayed the same.
 use Rattle.std.proofs.Common.{◌≡◌, ℕ, zero, suc, ◌+◌, ◌<◌, ◌≤◌, Bool, true, false, ◌||◌, ◌&&◌, not, cond, nat_eq, Option, Some, None, List, [], ◌∷◌, slice_get, refl, sym, ap, ◌∙◌, subst, arith}
+use Rattle.std.proofs.lemmas.Bool.Decides.{nat_tests}
 use Rattle.rx_elem.specs.Spots.{Mounted, at_root, mounted, numbers_of, spots}
 use Rattle.rx_elem.specs.Trees.{Node}
 use Rattle.rx_hook_store.proofs.Stores.{same_number}
@@ -26,6 +27,19 @@ is_there (x ∷ ms) n has = go (nat_eq n x.number) refl has (is_there ms n)
     go : (b : Bool) → nat_eq n x.number ≡ b → (b || has_instance ms n) ≡ true → (has_instance ms n ≡ true → IsThere ms n) → IsThere (x ∷ ms) n
     go true e h rest = record { place = zero; instance = x; at = refl; number_is = sym (same_number n x.number e) }
     go false e h rest = let r = rest h in record { place = suc r.place; instance = r.instance; at = r.at; number_is = r.number_is }
+
+-- an instance of a list has its number
+pub has_itself : (ms : List Mounted) (k : ℕ) (m : Mounted) → slice_get ms k ≡ Some m → has_instance ms m.number ≡ true
+has_itself [] k m at = cc
+has_itself (x ∷ ms) zero m at =
+    let same : x ≡ m = cc in
+    let itself : nat_eq m.number x.number ≡ true = (let e : x.number ≡ m.number = ap (λ (y : Mounted). y.number) same in grind (arith, nat_tests)) in
+    ap (λ b. b || has_instance ms m.number) itself
+has_itself (x ∷ ms) (suc k) m at = go (nat_eq m.number x.number) (has_itself ms k m at)
+  where
+    go : (b : Bool) → has_instance ms m.number ≡ true → (b || has_instance ms m.number) ≡ true
+    go true h = refl
+    go false h = h
 
 has_once : (ms : List Mounted) (n : ℕ) → has_instance ms n ≡ true → 1 ≤ occurs n (numbers_of ms)
 has_once [] n has = absurd (let f : ⊥ = cc in f)

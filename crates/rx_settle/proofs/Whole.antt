@@ -1,13 +1,14 @@
 -- A commit that settles the hooks of each instance of its tree.
-use Rattle.std.proofs.Common.{◌≡◌, ◌⊎◌, inl, inr, ℕ, zero, suc, ◌<◌, ◌≤◌, Bool, true, false, nat_eq, nat_lt, ◌||◌, Option, Some, None, IsSome, List, [], ◌∷◌, length, map, slice_get, refl, sym, ap, ◌∙◌, subst, arith}
+use Rattle.std.proofs.Common.{◌≡◌, ◌⊎◌, inl, inr, ℕ, zero, suc, ◌<◌, ◌≤◌, Bool, true, false, nat_eq, nat_lt, ◌||◌, Option, Some, None, IsSome, Result, Ok, Err, List, [], ◌∷◌, length, map, slice_get, refl, sym, ap, ◌∙◌, subst, arith}
 use Rattle.std.proofs.lemmas.Bool.Decides.{nat_tests}
 use Rattle.std.proofs.lemmas.Option.{slice_get_within}
+use Rattle.std.specs.Result.{OnErr}
 use Rattle.rx_base.specs.declared.cut.Cut.{Cut}
 use Rattle.rx_lane.specs.Lanes.{Lanes}
 use Rattle.rx_ast.specs.Syntax.{Program}
 use Rattle.rx_elem.specs.Numbers.{Numbers, numbered}
 use Rattle.rx_elem.specs.Trees.{Node}
-use Rattle.rx_elem.specs.Spots.{Mounted, mounted}
+use Rattle.rx_elem.specs.Spots.{Mounted, mounted, numbers_of}
 use Rattle.rx_hooks.specs.declared.hook.Hook.{Hook}
 use Rattle.rx_hooks.specs.Hooks.{HooksStandFor, committed_hook, owed_hook}
 use Rattle.rx_hooks.specs.Hooks as hooks_of
@@ -30,12 +31,13 @@ use Rattle.run_laws.proofs.AlongRuns.{reached_carries}
 use Rattle.end_laws.proofs.Read.{mounted_same}
 use Rattle.rx_settle.specs.declared.made.NewHooks.{NewHooks}
 use Rattle.rx_settle.specs.Made.{AreMadeFor, kept_with}
-use Rattle.rx_settle.specs.Passes.{AllSettled, AreApart, AreKept, AreSettled, ChangesWorking, TellsOf, works, rests, HasAllWorking, IsSettledOver, KeepsOn, has_instance}
+use Rattle.rx_settle.specs.Passes.{AllSettled, AreApart, AreKept, AreSettled, ChangesWorking, TellsOf, works, rests, HasAllWorking, IsSettledOver, KeepsOn, StayOld, has_instance}
 use Rattle.rx_settle.specs.Settling.{IsSettlingOf}
 use Rattle.rx_settle.proofs.Apart.{own_apart}
-use Rattle.rx_settle.proofs.Numbers.{is_there, left_in, left_out, own_same, pruned_own}
+use Rattle.rx_settle.proofs.Numbers.{has_itself, is_there, left_in, left_out, own_same, pruned_own}
 use Rattle.rx_settle.proofs.Making.{IsFound, below_or_not, found, old_stays}
 use Rattle.rx_settle.proofs.Mounting.{new_or_old}
+use Rattle.rx_settle.proofs.Staying.{same_stay}
 
 -- ---- the second pass
 
@@ -56,19 +58,6 @@ one_instance ms apart j k a b here there same = go (nat_lt j k) refl (nat_lt k j
     go true before u e = differ a.number b.number same (apart j k a b (grind (arith, nat_tests)) here there)
     go false e true after = differ b.number a.number (sym same) (apart k j b a (grind (arith, nat_tests)) there here)
     go false e false f = at_one (grind (arith, nat_tests))
-
--- an instance of a list has its number
-pub has_itself : (ms : List Mounted) (k : ℕ) (m : Mounted) → slice_get ms k ≡ Some m → has_instance ms m.number ≡ true
-has_itself [] k m at = cc
-has_itself (x ∷ ms) zero m at =
-    let same : x ≡ m = cc in
-    let itself : nat_eq m.number x.number ≡ true = (let e : x.number ≡ m.number = ap (λ (y : Mounted). y.number) same in grind (arith, nat_tests)) in
-    ap (λ b. b || has_instance ms m.number) itself
-has_itself (x ∷ ms) (suc k) m at = go (nat_eq m.number x.number) (has_itself ms k m at)
-  where
-    go : (b : Bool) → has_instance ms m.number ≡ true → (b || has_instance ms m.number) ≡ true
-    go true h = refl
-    go false h = h
 
 module _ (lanes : Lanes) (cut : Cut) (first : ℕ) (ms : List Mounted) (xs : List NewHooks) (old settled inserted new : KeptBy) (apart : AreApart ms)
     (are_made : AreMadeFor first ms (length ms) xs) (settles : (k : ℕ) (m : Mounted) → slice_get ms k ≡ Some m → AreSettled lanes cut first old settled m)
@@ -159,6 +148,11 @@ module _ (p : Program) (kept : KeptBy) (old : Option Node) (new : Node) (first :
     -- hooks are kept of each one that is not new
     pub pruned_kept : AreKept first kept (mounted (Some pruned_new))
     pruned_kept k m at below = let whole = are_within old new pruned_old pruned_new pruned k m at in instances_kept whole.0 m whole.1 below
+
+    -- if they have the numbers of those of the old one, they stay
+    pub pruned_stay : numbers_of (mounted pruned_old) ≡ numbers_of (mounted (Some pruned_new)) → StayOld first (mounted pruned_old) (mounted (Some pruned_new))
+    pruned_stay same =
+        subst (λ n. StayOld n (mounted pruned_old) (mounted (Some pruned_new))) (sym h.first_is) (same_stay s.numbers.instance old new pruned_old pruned_new pruned own_old same)
 
     module _ (last : KeptBy) (q : SettlesPruned p kept last g.lanes g.cut s.numbers.instance new pruned_old pruned_new) where
       -- the commit finds the hooks of each instance of the pruned tree settled
@@ -266,6 +260,11 @@ settled_gone p kept last old new pruned_old pruned_new least lanes cut pruned ov
 pub whole_trees : (old : Option Node) (new : Node) → ArePruned old new old new
 whole_trees None new = pruning.first
 whole_trees (Some o) new = later whole
+
+-- an error that comes with a property
+pub on_err : {T E P : Type 0} (r : Result T E) → P → OnErr r P
+on_err (Ok x) h = tt
+on_err (Err e) h = h
 
 -- if a render goes on what is kept, it stands for the state as before
 pub all_go_on : (p : Program) (lanes : Lanes) (cut : Cut) (old new : KeptBy) (s : State) → KeepsOn p lanes cut old new → DoneBefore cut s.journal.updates → KeepsAllHooks p s old

@@ -29,6 +29,11 @@ has_instance ms n = list_any (λ m. nat_eq n m.number) ms
 abbrev pub is_gone : (before ms : List Mounted) → ℕ → Bool
 is_gone before ms n = has_instance before n && not (has_instance ms n)
 
+-- the instances of a list have the numbers of those of an old one, and each is below the first
+pub record StayOld (first : ℕ) (before ms : List Mounted) : Type 0 where
+  pub same : (n : ℕ) → has_instance ms n ≡ has_instance before n
+  pub below : (n : ℕ) → has_instance ms n ≡ true → n < first
+
 -- hooks are kept of each instance with a number below the first
 abbrev pub AreKept : (first : ℕ) → (kept : ℕ → Option (List Hook)) → List Mounted → Type 0
 AreKept first kept ms = (k : ℕ) (m : Mounted) → slice_get ms k ≡ Some m → m.number < first → IsSome (kept m.number)

@@ -1,5 +1,5 @@
 // What a commit does with the hooks of the instances of its tree.
-ghost use Rattle.std.specs.Prelude.{◌≡◌, ℕ, false, OnOk, OnErr, Some, None, slice_get};
+ghost use Rattle.std.specs.Prelude.{◌≡◌, ℕ, false, List, OnOk, OnErr, Some, None, slice_get};
 ghost use Rattle.std.specs.Option.{option_copied};
 ghost use Rattle.rx_elem.specs.Numbers.{numbered};
 ghost use Rattle.rx_elem.specs.Spots as spots;
@@ -11,20 +11,20 @@ ghost use Rattle.rx_model.specs.Committing.{committed_state};
 ghost use Rattle.rx_model.specs.HooksOf.{KeepsAllHooks};
 ghost use Rattle.rx_hook_store.specs.Store.{kept_hooks};
 ghost use Rattle.rx_settle.specs.Found.{HasWorking, seen};
-ghost use Rattle.rx_settle.specs.Passes.{AreApart, AreKept, IsSettledOver, has_instance};
+ghost use Rattle.rx_settle.specs.Passes.{AreApart, AreKept, IsSettledOver, StayOld, has_instance};
 ghost use Rattle.rx_settle.specs.Settling.{CanSettle, IsSettlingOf};
 
 use crate::gone::gone_from;
 use crate::keeping::{insert_all, remove_all, settle_each};
 use crate::made::mount_new;
 use crate::rendering::render_shown;
-use crate::working::working_of;
+use crate::working::{take_known, working_of};
 use rx_base::Cut;
 use rx_check::Checked;
 use rx_hook_store::HookStore;
 use rx_lane::Lanes;
 use rx_node::Node;
-use rx_spots::{Mounted, mounted};
+use rx_spots::{Mounted, have_same_instances, mounted, mounted_among};
 use std::alloc::{AllocError, Global};
 
 // Settles the hooks of the instances of a tree, of which those in whose hooks the render has work are found, and drops those of
@@ -59,17 +59,31 @@ fn settle_trees(
     Ok(())
 }
 
-/// Settles the hooks of each instance of a tree at its commit (react.dev, State as a Snapshot). Updates that its render
-/// included are done in a visible instance; a kept one is owed them; a new instance, one with a number from the first on,
-/// has its hooks at their initial values; and those of an instance that is gone are dropped (react.dev, Preserving and
-/// Resetting State). The render keeps no note of what it folded, so the hooks of each visible instance in which it has work are
-/// folded once more, for its lanes at its cut, and give the same. If no instance that the pruned trees leave out has work, it
-/// goes over these alone: what is kept of the others stands as it is.
-///
-/// # Errors
-///
-/// Only if out of memory. What is kept then stands for whatever state it stood for.
-pub fn settle_hooks(
+// Settles the hooks of those instances in which the render has work, where none is new and none is gone.
+fn settle_working(
+    alloc: Global,
+    store: &mut HookStore,
+    checked: &Checked,
+    working: &[&Mounted],
+    first: u64,
+    lanes: Lanes,
+    cut: Cut,
+) -> Result<(), AllocError>
+    requires apart { AreApart (seen working.now) }
+    requires kept { AreKept first (kept_hooks store.old) (seen working.now) }
+    ensures settled { OnOk result ((before ms : List spots.Mounted) → AreApart ms → HasWorking lanes cut (kept_hooks store.old) ms (seen working.now) → StayOld first before ms
+        → IsSettledOver checked.now lanes cut first (kept_hooks store.old) (kept_hooks store.new) before ms) }
+    ensures err { OnErr result ((s : State) → DoneBefore cut s.journal.updates → KeepsAllHooks checked.now s (kept_hooks store.old)
+        → KeepsAllHooks checked.now s (kept_hooks store.new)) }
+{
+    render_shown(alloc, store, checked, working, first, lanes, cut)?;
+    settle_each(store, working, first, lanes, cut);
+    Ok(())
+}
+
+// Settles the hooks of the instances of a tree, of which some may be new or gone. If no instance that the pruned trees leave out has
+// work, it goes over these alone.
+fn settle_changed(
     alloc: Global,
     store: &mut HookStore,
     checked: &Checked,
@@ -103,5 +117,52 @@ pub fn settle_hooks(
     let (working, _) = working_of(alloc, store, &instances, lanes, cut)?;
     settle_trees(
         alloc, store, checked, old, &instances, &working, first, lanes, cut,
+    )
+}
+
+/// Settles the hooks of each instance of a tree at its commit (react.dev, State as a Snapshot). Updates that its render
+/// included are done in a visible instance; a kept one is owed them; a new instance, one with a number from the first on,
+/// has its hooks at their initial values; and those of an instance that is gone are dropped (react.dev, Preserving and
+/// Resetting State). The render keeps no note of what it folded, so the hooks of each visible instance in which it has work are
+/// folded once more, for its lanes at its cut, and give the same. If no instance that the pruned trees leave out has work, it
+/// goes over these alone: what is kept of the others stands as it is. If they have the same instances besides, it goes over those
+/// alone in which the render has work.
+///
+/// # Errors
+///
+/// Only if out of memory. What is kept then stands for whatever state it stood for.
+pub fn settle_hooks(
+    alloc: Global,
+    store: &mut HookStore,
+    checked: &Checked,
+    old: Option<&Node>,
+    new: &Node,
+    pruned_old: Option<&Node>,
+    pruned_new: &Node,
+    first: u64,
+    lanes: Lanes,
+    cut: Cut,
+) -> Result<(), AllocError>
+    requires can { CanSettle checked.now (kept_hooks store.old) (option_copied old) new.now first lanes cut }
+    requires pruned { ArePruned (option_copied old) new.now (option_copied pruned_old) pruned_new.now }
+
+    // What is kept stands for the machine's state after the commit.
+    ensures settled { OnOk result ((s : State) (g : Progress) (x : trees.Node) → IsSettlingOf checked.now (kept_hooks store.old) (option_copied old.entry) new.now first lanes cut s g x
+        → KeepsAllHooks checked.now (committed_state s g (numbered s.numbers x)) (kept_hooks store.new)) }
+    ensures gone { OnOk result ((k : ℕ) (m : spots.Mounted) → slice_get (spots.mounted (option_copied old.entry)) k ≡ Some m
+        → has_instance (spots.mounted (Some new.now)) m.number ≡ false → kept_hooks store.new m.number ≡ None) }
+    ensures err { OnErr result ((s : State) → DoneBefore cut s.journal.updates → KeepsAllHooks checked.now s (kept_hooks store.old)
+        → KeepsAllHooks checked.now s (kept_hooks store.new)) }
+{
+    if have_same_instances(pruned_old, Some(pruned_new)) {
+        let mut numbers = store.working(alloc, lanes, cut)?;
+        let instances = mounted_among(alloc, Some(pruned_new), &numbers)?;
+        let working = take_known(alloc, &mut numbers, &instances)?;
+        if numbers.is_empty() {
+            return settle_working(alloc, store, checked, &working, first, lanes, cut);
+        }
+    }
+    settle_changed(
+        alloc, store, checked, old, new, pruned_old, pruned_new, first, lanes, cut,
     )
 }

@@ -1,5 +1,5 @@
 // The instances in whose hooks a render has work.
-ghost use Rattle.std.specs.Prelude.{◌≡◌, ◌≤◌, ℕ, true, false, cond, nat_eq, IfOk, length};
+ghost use Rattle.std.specs.Prelude.{◌≡◌, ℕ, true, false, cond, nat_eq, IfOk, length};
 ghost use Rattle.std.specs.HashSet.{contains};
 ghost use Rattle.rx_hook_store.specs.Store.{kept_hooks};
 ghost use Rattle.rx_hook_store.specs.Working.{AreAllWorking};
@@ -13,46 +13,32 @@ use rx_spots::Mounted;
 use std::alloc::{AllocError, Global};
 use std::collections::HashSet;
 
-// The least and the greatest number of a set.
-fn bounds_of(numbers: &HashSet<u64>) -> (u64, u64)
-    ensures { (n : ℕ) → contains nat_eq numbers.now n ≡ true → (result.0 ≤ n) × (n ≤ result.1) }
-{
-    let mut least = u64::MAX;
-    let mut greatest = 0;
-    'bounding: for number in numbers.iter() {
-        least = least.min(*number);
-        greatest = greatest.max(*number);
-    }
-    (least, greatest)
-}
-
-// Takes a number out of a set, and tells whether it was there. The set is not asked where the number lies outside of its bounds.
-fn take_number(numbers: &mut HashSet<u64>, number: u64, least: u64, greatest: u64) -> bool
-    requires { (n : ℕ) → contains nat_eq numbers.old n ≡ true → (least ≤ n) × (n ≤ greatest) }
+// Takes a number out of a set, and tells whether it was there.
+fn take_number(numbers: &mut HashSet<u64>, number: u64) -> bool
     ensures was { result ≡ contains nat_eq numbers.old number }
     ensures others { (n : ℕ) → contains nat_eq numbers.new n ≡ cond (nat_eq number n) false (contains nat_eq numbers.old n) }
 {
-    if number < least || greatest < number {
-        return false;
-    }
     numbers.remove(&number)
 }
 
-// The instances whose numbers are in a set. Their numbers are taken out of it, and once it is empty no more are looked at.
-fn take_known<'a>(
+/// The instances whose numbers are in a set. Their numbers are taken out of it, and once it is empty no more are looked at.
+///
+/// # Errors
+///
+/// Only if out of memory.
+pub(crate) fn take_known<'a>(
     alloc: Global,
     numbers: &mut HashSet<u64>,
     instances: &'a [Mounted],
 ) -> Result<Vec<&'a Mounted>, AllocError>
     ensures { IfOk result (λ found. AreTaken (contains nat_eq numbers.old) (contains nat_eq numbers.new) instances.now (length instances.now) (seen found.items)) }
 {
-    let (least, greatest) = bounds_of(numbers);
     let mut found = Vec::new(alloc);
     'finding: for instance in instances {
         if numbers.is_empty() {
             return Ok(found);
         }
-        if take_number(numbers, instance.number(), least, greatest) {
+        if take_number(numbers, instance.number()) {
             found.push(instance)?;
         }
     }

@@ -2,7 +2,7 @@ use Rattle.std.proofs.Common.{◌≡◌, ◌<◌, ◌≤◌, true, Some, length,
 use Rattle.std.proofs.lemmas.Option.{same_Some, slice_get_read, slice_get_within}
 use Rattle.rx_elem.specs.Spots.{Mounted}
 use Rattle.rx_settle.specs.Passes.{has_instance}
-use Rattle.rx_settle.proofs.Whole.{has_itself}
+use Rattle.rx_settle.proofs.Numbers.{has_itself}
 use Rattle.rx_settle.proofs.gone.stand_as_before.Goals as goal
 
 pub comparing-preserved : goal.comparing-preserved

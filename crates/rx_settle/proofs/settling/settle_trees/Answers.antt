@@ -1,7 +1,6 @@
-use Rattle.std.proofs.Common.{◌∙◌, ℕ, List, None, Result, Ok, Err, IsSome, cond, nat_eq, sym, ap, subst, refl}
+use Rattle.std.proofs.Common.{◌∙◌, ℕ, List, None, IsSome, cond, nat_eq, sym, ap, subst, refl}
 use Rattle.std.specs.List.{list_any}
 use Rattle.std.specs.Option.{option_copied}
-use Rattle.std.specs.Result.{OnErr}
 use Rattle.rx_elem.specs.Spots.{Mounted, mounted}
 use Rattle.rx_hook_store.specs.Store.{kept_hooks}
 use Rattle.rx_hook_store.proofs.Staying.{all_stay}
@@ -9,12 +8,8 @@ use Rattle.rx_settle.specs.Found.{seen}
 use Rattle.rx_settle.specs.Passes.{is_gone}
 use Rattle.rx_settle.proofs.Again.{goes_on_before}
 use Rattle.rx_settle.proofs.Found.{kept_of, settled_over}
-use Rattle.rx_settle.proofs.Whole.{all_go_on}
+use Rattle.rx_settle.proofs.Whole.{all_go_on, on_err}
 use Rattle.rx_settle.proofs.settling.settle_trees.Goals as goal
-
-on_err : {T E P : Type 0} (r : Result T E) → P → OnErr r P
-on_err (Ok x) h = tt
-on_err (Err e) h = h
 
 pub returns-in_err-reserve-clause-err : goal.returns-in_err-reserve-clause-err
 returns-in_err-reserve-clause-err c =

@@ -1,4 +1,4 @@
-use Rattle.std.proofs.Common.{◌≡◌, Bool, ℕ, List, true, false, cond, refl, sym, ap, subst, ◌∙◌, ◌+◌, nat_eq}
+use Rattle.std.proofs.Common.{◌≡◌, ℕ, List, false, cond, refl, sym, ap, subst, ◌∙◌, ◌+◌, nat_eq}
 use Rattle.std.specs.HashSet.{contains}
 use Rattle.std.proofs.lemmas.List.{map-append}
 use Rattle.std.proofs.lemmas.Option.{slice_get_read}
@@ -19,19 +19,11 @@ finding-preserved c =
     let updates : (n : ℕ) → new n ≡ cond (nat_eq instance.number n) false (now n) = λ n. c.take_number.ensures.others n ∙ ap (λ k. cond (nat_eq k n) false (now n)) is in
     let test = ap now (sym is) ∙ sym c.take_number.ensures.was in
     let found = λ (xs : List Mounted). AreTaken old new c.args.instances.now (c.finding.instance-index + 1) xs in
-    record {
-      taken = elim c.if-take_number.branch [
-        | then-take_number+in_ok-push w ↦
-            subst found (sym (ap (λ v. seen v.items) w.found-is ∙ (ap seen w.in_ok-push.ensures.items ∙ map-append (λ r. r.now) c.finding.found.items _)))
-            (take_more old now new c.args.instances.now c.finding.instance-index instance at (seen c.finding.found.items) c.finding.invariant.taken updates (test ∙ w.if-take_number.true))
-        | else-take_number w ↦
-            subst found (sym (ap (λ v. seen v.items) w.found-is))
-            (pass_more old now new c.args.instances.now c.finding.instance-index instance at (seen c.finding.found.items) c.finding.invariant.taken updates (test ∙ w.if-take_number.false))
-      ];
-      bounds = λ n has. c.finding.invariant.bounds n (was_there (nat_eq instance.number n) (now n) (sym (updates n) ∙ has));
-    }
-  where
-    -- what is still there was there
-    was_there : (b was : Bool) → cond b false was ≡ true → was ≡ true
-    was_there true was h = cc
-    was_there false was h = h
+    elim c.if-take_number.branch [
+      | then-take_number+in_ok-push w ↦
+          subst found (sym (ap (λ v. seen v.items) w.found-is ∙ (ap seen w.in_ok-push.ensures.items ∙ map-append (λ r. r.now) c.finding.found.items _)))
+          (take_more old now new c.args.instances.now c.finding.instance-index instance at (seen c.finding.found.items) c.finding.invariant updates (test ∙ w.if-take_number.true))
+      | else-take_number w ↦
+          subst found (sym (ap (λ v. seen v.items) w.found-is))
+          (pass_more old now new c.args.instances.now c.finding.instance-index instance at (seen c.finding.found.items) c.finding.invariant updates (test ∙ w.if-take_number.false))
+    ]

@@ -1,11 +1,8 @@
-use Rattle.std.proofs.Common.{◌≡◌, ℕ, ◌≤◌, true, nat_eq}
+use Rattle.std.proofs.Common.{nat_eq}
 use Rattle.std.specs.HashSet.{contains}
 use Rattle.rx_settle.specs.Found.{AreTaken, seen}
 use Rattle.rx_settle.proofs.working.take_known.Given as goal
 
--- some are found, and what is left of the set lies within its bounds
+-- those of the instances so far whose numbers left the set are found
 abbrev pub invariant-finding : goal.invariant-finding
-invariant-finding l = record {
-  taken : AreTaken (contains nat_eq l.initial.numbers) (contains nat_eq l.numbers) l.instances l.instance-index (seen l.found.items);
-  bounds : (n : ℕ) → contains nat_eq l.numbers n ≡ true → (l.least ≤ n) × (n ≤ l.greatest);
-}
+invariant-finding l = AreTaken (contains nat_eq l.initial.numbers) (contains nat_eq l.numbers) l.instances l.instance-index (seen l.found.items)
