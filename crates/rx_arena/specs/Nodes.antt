@@ -21,10 +21,6 @@ module _ {F : Type 0} where
   abbrev pub Keeps : Slab (Node F) → Slab (Node F) → Type 0
   Keeps old new = (id : ℕ) → at new id ≡ at old id
 
-  -- a node with no links
-  abbrev pub new_node : F → Node F
-  new_node value = record { value = value; child = None; sibling = None; up = None; alternate = None }
-
   -- a node with these links and no child
   abbrev pub linked_node : F → (sibling up alternate : Option ℕ) → Node F
   linked_node value s u o = record { value = value; child = None; sibling = s; up = u; alternate = o }
@@ -77,14 +73,6 @@ module _ {F : Type 0} where
   pub record LeadsBack (old new : Slab (Node F)) (link to : Option ℕ) : Type 0 where
     pub here : IfSome link (λ j. at new j ≡ option_map (with_alternate to) (at old j))
     pub others : (i : ℕ) → link ≢ Some i → at new i ≡ at old i
-    pub live : slab_len new ≡ slab_len old
-    pub capacity : new.capacity ≡ old.capacity
-
-  -- two nodes became alternates of each other, the alternate links that led to them are cut, and nothing else changed
-  pub record Pairs (old new : Slab (Node F)) (a b : ℕ) : Type 0 where
-    pub first : at new a ≡ option_map (with_alternate (Some b)) (at old a)
-    pub second : at new b ≡ option_map (with_alternate (Some a)) (at old b)
-    pub others : (other : ℕ) → other ≢ a → other ≢ b → at new other ≡ without b (without a (at old other))
     pub live : slab_len new ≡ slab_len old
     pub capacity : new.capacity ≡ old.capacity
 

@@ -1,8 +1,8 @@
 // The nodes of fibers.
-ghost use Rattle.std.specs.Prelude.{◌≡◌, ◌≢◌, ◌+◌, ◌<◌, ◌^◌, ℕ, Some, None, IfSome, OnOk, Option, option_map};
+ghost use Rattle.std.specs.Prelude.{◌≡◌, ◌≢◌, ◌+◌, ◌<◌, ◌^◌, ℕ, Some, None, IfSome, OnOk, Option};
 ghost use Rattle.std.specs.Borrow.{Lends, sem};
 ghost use Rattle.slab.specs.Slab.{get, slab_len, HasRoomFor};
-ghost use Rattle.rx_arena.specs.Nodes.{at, IsLive, Keeps, new_node, linked_node, with_child, with_sibling, with_up, with_value, with_alternate, cut_node, alternate_in, Changes, Pairs, Joins, LeadsBack, Releases, AreMutual};
+ghost use Rattle.rx_arena.specs.Nodes.{at, IsLive, Keeps, linked_node, with_child, with_sibling, with_up, with_value, with_alternate, alternate_in, Changes, Joins, LeadsBack, Releases, AreMutual};
 
 use crate::id::FiberId;
 use slab::Slab;
@@ -52,7 +52,8 @@ impl<F> Arena<F> {
         }
     }
 
-    /// Takes memory for that many nodes more, so that as many calls of `alloc` have room. If out of memory, nothing changes.
+    /// Takes memory for that many nodes more, so that as many calls of `alloc_linked` have room. If out of memory, nothing
+    /// changes.
     pub fn reserve(&mut self, more: u64) -> Result<(), AllocError>
         ensures ok { OnOk result (HasRoomFor self.new more) }
         ensures kept { Keeps self.old self.new }
@@ -69,26 +70,6 @@ impl<F> Arena<F> {
         ensures { result ≡ slab_len self.now }
     {
         self.nodes.len() as u64
-    }
-
-    /// A new node with no links, for which room was reserved. No alternate link leads to it.
-    pub fn alloc(&mut self, value: F) -> FiberId
-        requires { HasRoomFor self.old 1 }
-        ensures vacant { at self.old result ≡ None }
-        ensures made { at self.new result ≡ Some (new_node value) }
-        ensures others { (id : ℕ) → id ≢ result → at self.new id ≡ at self.old id }
-        ensures alone { (id : ℕ) → alternate_in (at self.new id) ≢ Some result }
-        ensures live { slab_len self.new ≡ slab_len self.old + 1 }
-        ensures capacity { self.new.capacity ≡ self.old.capacity }
-    {
-        let key = self.nodes.insert_reserved(Node {
-            value,
-            child: None,
-            sibling: None,
-            up: None,
-            alternate: None,
-        });
-        FiberId::of(key)
     }
 
     /// A new node with these links and no child, for which room was reserved. It and the old one, if any, are alternates: so
@@ -206,19 +187,6 @@ impl<F> Arena<F> {
         set_up(&mut self.nodes, id, to);
     }
 
-    /// Makes two nodes alternates of each other. What was the alternate of either has none then.
-    pub fn pair(&mut self, a: FiberId, b: FiberId)
-        requires first { IsLive self.old a }
-        requires second { IsLive self.old b }
-        requires differ { a ≢ b }
-        ensures { Pairs self.old self.new a b }
-    {
-        clear(&mut self.nodes, a);
-        clear(&mut self.nodes, b);
-        set_alternate(&mut self.nodes, a, Some(b));
-        set_alternate(&mut self.nodes, b, Some(a));
-    }
-
     /// Takes a node out. What was its alternate has none then; other links that lead there are left to the caller.
     pub fn release(&mut self, id: FiberId)
     where
@@ -327,22 +295,5 @@ fn lead_back<F>(nodes: &mut Slab<Node<F>>, link: Option<FiberId>, to: Option<Fib
 {
     if let Some(id) = link {
         set_alternate(nodes, id, to);
-    }
-}
-
-// Cuts the alternate link of a node, and the one that leads to it.
-fn clear<F>(nodes: &mut Slab<Node<F>>, id: FiberId)
-    requires live { IsLive nodes.old id }
-    requires mutual { AreMutual nodes.old }
-    ensures own { at nodes.new id ≡ option_map (with_alternate None) (at nodes.old id) }
-    ensures others { (other : ℕ) → other ≢ id → at nodes.new other ≡ option_map (cut_node id) (at nodes.old other) }
-    ensures mutual { AreMutual nodes.new }
-    ensures live { slab_len nodes.new ≡ slab_len nodes.old }
-    ensures capacity { nodes.new.capacity ≡ nodes.old.capacity }
-{
-    let other = node_at(nodes, id).alternate;
-    set_alternate(nodes, id, None);
-    if let Some(other) = other {
-        set_alternate(nodes, other, None);
     }
 }
