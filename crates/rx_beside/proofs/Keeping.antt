@@ -58,7 +58,7 @@ module _ (t : Trees Fiber) (fits : Fits t) (linked : IsLinked t.current) (alike 
     (x : Node) (old : Some x ≡ first_node (list_of t (old_of t.draft p))) (fixed : is_fixed_mark (mark_of x) ≡ true)
     (took : made_kids_of t.draft p ≡ taken (old_kids t p)) (some : is_some (entry (made_kids_of t.draft p)) ≡ true)
     (v : Fiber) (value : Some v ≡ made_value_of t.draft p) (m : Mark) (stage : v.stage ≡ begun m) (shown : is_hidden m ≡ false) where
-  kept_like : (mark_of x ≡ m) × (element_of x ≡ v.element)
+  pub kept_like : (mark_of x ≡ m) × (element_of x ≡ v.element)
   kept_like =
       let b = beside_at t fits linked p makes in
       let at = is-at t fits b.at.around p b.at.value b.at.old b.at.kids b.at.rest b.at.here in

@@ -1,7 +1,7 @@
 // A node of the finished tree beside the old one that it was made for.
 ghost use Rattle.std.specs.Prelude.{◌≡◌, ◌<◌, ◌^◌, ℕ, Bool, true, false, ◌||◌, List, ◌∷◌, [], All, IfSome, IfOk, Some, Option, is_some, length, map, option_and_then};
 ghost use Rattle.rx_elem.specs.Trees as trees;
-ghost use Rattle.rx_elem.specs.Trees.{node, none, forest, element_of, mark_of, children_of, fallback_of, host_number, shows_fallback};
+ghost use Rattle.rx_elem.specs.Trees.{node, none, forest, element_of, mark_of, children_of, fallback_of, host_number, is_hidden, shows_fallback};
 ghost use Rattle.rx_elem.specs.Compare.{node_at};
 ghost use Rattle.rx_node.specs.MarkView.{mark_seen};
 ghost use Rattle.rx_links.specs.Drafts.{Makes, taken, entry, grafted, old_of, old_kids};
@@ -102,6 +102,14 @@ fn was_beside<'a>(
     }
 }
 
+// Whether a node with this mark shows its children: it is no boundary that hides them or has caught a value.
+fn shows_children(mark: &Mark) -> bool
+    ensures hidden { result ≡ true → is_hidden (mark_seen mark.now) ≡ false }
+    ensures shown { result ≡ true → shows_fallback (mark_seen mark.now) ≡ false }
+{
+    !mark.is_hidden() && !mark.is_caught()
+}
+
 // Whether a made fiber is the old node that it was made for: it took its children over, and a commit leaves the mark as it is.
 fn is_kept(tree: &FiberTree<Fiber>, id: FiberId, old: &Node) -> bool
     requires made { Makes tree.now.draft id }
@@ -113,7 +121,7 @@ fn is_kept(tree: &FiberTree<Fiber>, id: FiberId, old: &Node) -> bool
     let Stage::Begun(mark) = tree.value(id).stage() else {
         return false;
     };
-    if !old.mark().is_fixed() || !goes_on(old.mark(), mark) {
+    if !old.mark().is_fixed() || !shows_children(mark) {
         return false;
     }
     takes_over(tree, id, made_child(tree, id).is_some())
