@@ -52,14 +52,14 @@ fn a_dispatch_is_rendered(rt: HostRuntime) -> Result<(), Fail> {
         updates: 1,
         resolutions: 0,
     };
-    assert!(rt; store.stirred().is_some_and(|numbers| numbers.contains(&7)));
+    assert!(rt; store.stirred().is_some_and(|numbers| numbers.has(7)));
     assert!(rt; store.has_work(7, lanes, cut));
     assert!(rt; !store.has_work(7, Lanes::none(), cut));
     assert!(rt; store.has_news(7, lanes, cut));
     assert!(rt; !store.has_news(7, Lanes::none(), cut));
     let working = store.working(rt.alloc(), lanes, cut)?;
-    assert!(rt; working.contains(&7));
-    assert_eq!(rt; working.len(), 1);
+    assert!(rt; working.has(7));
+    assert_eq!(rt; working.members().len(), 1);
     assert!(rt; store.working(rt.alloc(), Lanes::none(), cut)?.is_empty());
     store.owe_instance(7, lanes, cut);
     assert!(rt; store.has_work(7, lanes, cut));

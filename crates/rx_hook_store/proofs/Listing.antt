@@ -1,5 +1,5 @@
 -- Instances with work are put in a set, one after the other.
-use Rattle.std.proofs.Common.{◌≡◌, ◌<◌, ◌^◌, ℕ, ℤ, Bool, true, false, cond, ◌||◌, nat_eq, Option, Some, None, List, [], ◌∷◌, refl, ap, ◌∙◌, sym}
+use Rattle.std.proofs.Common.{◌≡◌, ◌<◌, ◌^◌, ℕ, ℤ, Bool, true, false, ◌||◌, nat_eq, Option, Some, None, List, [], ◌∷◌, refl, ap, ◌∙◌, sym}
 use Rattle.rx_lane.specs.Lanes.{Lanes}
 use Rattle.rx_base.specs.declared.cut.Cut.{Cut}
 use Rattle.rx_hooks.specs.declared.hook.Hook.{Hook}
@@ -36,12 +36,13 @@ put_more n x left rest before after first now here others =
     go false false false d h here others = cc
 
 -- what is among these since a number was put there is that number, or was among them before
-pub put_only : (number n : ℕ) (new old : Bool) (A : Type 0) → new ≡ cond (nat_eq number n) true old → new ≡ true → (number ≡ n → A) → (old ≡ true → A) → A
-put_only number n new old A is on here before = go (nat_eq number n) refl
+pub put_only : (number n : ℕ) (new old : Bool) (A : Type 0) → new ≡ (old || nat_eq n number) → new ≡ true → (number ≡ n → A) → (old ≡ true → A) → A
+put_only number n new old A is on here before = go old refl (nat_eq n number) refl (sym is ∙ on)
   where
-    go : (b : Bool) → nat_eq number n ≡ b → A
-    go true e = here (same_number number n e)
-    go false e = before (sym (is ∙ ap (λ b. cond b true old) e) ∙ on)
+    go : (a : Bool) → old ≡ a → (b : Bool) → nat_eq n number ≡ b → (a || b) ≡ true → A
+    go true e b f either = before e
+    go false e true f either = here (sym (same_number n number f))
+    go false e false f either = absurd (let g : ⊥ = cc in g)
 
 -- if none is left it is put
 pub none_left : (n : ℕ) (left : List ℕ) (put : Bool) → left ≡ [] → (includes left n || put) ≡ true → put ≡ true

@@ -142,6 +142,28 @@ news_are lanes cut hs = new_only (list_any is_new_work (works hs)) (list_any is_
         (new_only (list_any (is_new lanes cut) h.updates.entries) (list_any (is_owed_before cut) h.updates.entries))
         ∙ ap (λ b. list_any (is_new lanes cut) h.updates.entries || b) (each hs)
 
+-- an update that gives no work is not new
+work_or_new : (included : Bool) (x : Standing) → (included && not (stands_done x)) ≡ false → (included && stands_open x) ≡ false
+work_or_new true standing.Open none = absurd (cc none)
+work_or_new true standing.Done none = refl
+work_or_new true standing.Owed none = refl
+work_or_new false x none = refl
+
+none_new : (lanes : Lanes) (cut : Cut) (es : List Entry) → list_any (has_work_in_update lanes cut) es ≡ false → list_any (is_new lanes cut) es ≡ false
+none_new lanes cut [] none = refl
+none_new lanes cut (e ∷ es) none =
+    let parts = neither (has_work_in_update lanes cut e) (list_any (has_work_in_update lanes cut) es) none in
+    let old : is_new lanes cut e ≡ false = work_or_new (is_included lanes cut e) e.standing parts.0 in
+    rw old (none_new lanes cut es parts.1)
+
+-- if there is no work there is no news
+pub no_news : (lanes : Lanes) (cut : Cut) (hs : List HookHistory) → has_work_in lanes cut hs ≡ false → has_news_in lanes cut hs ≡ false
+no_news lanes cut [] none = refl
+no_news lanes cut (h ∷ hs) none =
+    let parts = neither (list_any (has_work_in_update lanes cut) h.updates.entries) (has_work_in lanes cut hs) none in
+    let old = none_new lanes cut h.updates.entries parts.0 in
+    rw old (no_news lanes cut hs parts.1)
+
 -- an update that is not new is included for no lanes if it is included
 without : (below : Bool) (x : Standing) (among : Bool) → ((below && (stands_done x || stands_owed x || among)) && stands_open x) ≡ false
     → (below && (stands_done x || stands_owed x || false)) ≡ (below && (stands_done x || stands_owed x || among))

@@ -8,13 +8,13 @@ use rx_base::Cut;
 use rx_hooks::Hooks;
 use rx_lane::Lanes;
 use rx_queue::Work;
-use std::alloc::{AllocError, Global};
-use std::collections::{HashMap, HashSet};
+use rx_set::NumberSet;
+use std::alloc::Global;
 
 /// The numbers of the instances that may have queued updates. If memory runs out for one of them, it is all of them.
 #[derive(Drop)]
 pub(crate) struct Busy {
-    pub(crate) numbers: HashSet<u64>,
+    pub(crate) numbers: NumberSet,
     pub(crate) all: bool,
 }
 
@@ -35,9 +35,16 @@ impl Busy {
     /// No instance.
     pub(crate) fn new(alloc: Global) -> Busy {
         Busy {
-            numbers: HashSet::new(alloc),
+            numbers: NumberSet::new(alloc),
             all: false,
         }
+    }
+
+    /// Whether an instance is listed.
+    pub(crate) fn lists(&self, instance: u64) -> bool
+        ensures { result ≡ is_listed self.now instance }
+    {
+        self.all || self.numbers.has(instance)
     }
 
     /// Lists an instance.
@@ -45,7 +52,7 @@ impl Busy {
         ensures here { is_listed self.new instance ≡ true }
         ensures others { (n : ℕ) → is_listed self.old n ≡ true → is_listed self.new n ≡ true }
     {
-        if self.numbers.insert(instance).is_err() {
+        if self.numbers.add(instance).is_err() {
             self.all = true;
         }
     }
@@ -54,7 +61,7 @@ impl Busy {
     pub(crate) fn remove(&mut self, instance: u64)
         ensures others { (n : ℕ) → nat_eq instance n ≡ false → is_listed self.old n ≡ true → is_listed self.new n ≡ true }
     {
-        let _ = self.numbers.remove(&instance);
+        let _ = self.numbers.remove(instance);
     }
 
     /// Lists an instance with these hooks if a render may have work in them, and else no longer.

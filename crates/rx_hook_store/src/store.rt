@@ -20,7 +20,7 @@ ghost use Rattle.rx_hook_store.specs.Gives.{GivesValues, has_news_in, has_work_i
 ghost use Rattle.rx_hook_store.specs.Rendered.{IsRendered, KeepsInstance, RendersHooks};
 ghost use Rattle.rx_hook_store.specs.Changing.{ChangesHooks, dispatched_hook, lanes_linked};
 ghost use Rattle.rx_hook_store.specs.Working.{AreAllWorking, AreOnlyWorking, HaveWork};
-ghost use Rattle.std.specs.HashSet.{contains};
+ghost use Rattle.rx_set.specs.Sets.{holds};
 ghost use Rattle.std.specs.Map.{lookup};
 
 use crate::busy::Busy;
@@ -28,9 +28,10 @@ use rx_base::{Cut, Int, Ints};
 use rx_hooks::Hooks;
 use rx_lane::Lanes;
 use rx_queue::{Fold, Update, Work};
+use rx_set::NumberSet;
 use rx_step::LaneWord;
 use std::alloc::{AllocError, Global};
-use std::collections::{HashMap, HashSet};
+use std::collections::HashMap;
 use std::marker::Model;
 
 /// The hooks of the mounted instances, by the numbers of the instances. The fibers of an instance share them, as React's
@@ -95,39 +96,39 @@ fn send(
 
 // Puts the number of an instance among these, if a render has work in its hooks.
 fn put_working(
-    numbers: &mut HashSet<u64>,
+    numbers: &mut NumberSet,
     hooks: &HashMap<u64, Hooks>,
     instance: u64,
     lanes: Lanes,
     cut: Cut,
 ) -> Result<(), AllocError>
-    ensures here { OnOk result ((kept : List Hook) → lookup (nat_eq instance) hooks.now.entries ≡ Some kept → HaveWork lanes cut kept → contains nat_eq numbers.new instance ≡ true) }
-    ensures others { OnOk result ((n : ℕ) → contains nat_eq numbers.old n ≡ true → contains nat_eq numbers.new n ≡ true) }
-    ensures only { OnOk result (AreOnlyWorking lanes cut (λ n. lookup (nat_eq n) hooks.now.entries) (contains nat_eq numbers.old)
-        → AreOnlyWorking lanes cut (λ n. lookup (nat_eq n) hooks.now.entries) (contains nat_eq numbers.new)) }
+    ensures here { OnOk result ((kept : List Hook) → lookup (nat_eq instance) hooks.now.entries ≡ Some kept → HaveWork lanes cut kept → holds numbers.new instance ≡ true) }
+    ensures others { OnOk result ((n : ℕ) → holds numbers.old n ≡ true → holds numbers.new n ≡ true) }
+    ensures only { OnOk result (AreOnlyWorking lanes cut (λ n. lookup (nat_eq n) hooks.now.entries) (holds numbers.old)
+        → AreOnlyWorking lanes cut (λ n. lookup (nat_eq n) hooks.now.entries) (holds numbers.new)) }
 {
     if let Some(kept) = hooks.get(&instance)
         && kept.work(lanes, cut) != Work::Nothing
     {
-        numbers.insert(instance)?;
+        numbers.add(instance)?;
     }
     Ok(())
 }
 
 // Puts the numbers of those of the listed instances among these in whose hooks a render has work.
 fn put_listed(
-    numbers: &mut HashSet<u64>,
+    numbers: &mut NumberSet,
     hooks: &HashMap<u64, Hooks>,
-    listed: &HashSet<u64>,
+    listed: &[u64],
     lanes: Lanes,
     cut: Cut,
 ) -> Result<(), AllocError>
-    ensures all { OnOk result ((n : ℕ) (kept : List Hook) → contains nat_eq listed.now n ≡ true → lookup (nat_eq n) hooks.now.entries ≡ Some kept → HaveWork lanes cut kept
-        → contains nat_eq numbers.new n ≡ true) }
-    ensures only { OnOk result (AreOnlyWorking lanes cut (λ n. lookup (nat_eq n) hooks.now.entries) (contains nat_eq numbers.old)
-        → AreOnlyWorking lanes cut (λ n. lookup (nat_eq n) hooks.now.entries) (contains nat_eq numbers.new)) }
+    ensures all { OnOk result ((n : ℕ) (kept : List Hook) → holds listed.now n ≡ true → lookup (nat_eq n) hooks.now.entries ≡ Some kept → HaveWork lanes cut kept
+        → holds numbers.new n ≡ true) }
+    ensures only { OnOk result (AreOnlyWorking lanes cut (λ n. lookup (nat_eq n) hooks.now.entries) (holds numbers.old)
+        → AreOnlyWorking lanes cut (λ n. lookup (nat_eq n) hooks.now.entries) (holds numbers.new)) }
 {
-    'listing: for instance in listed.iter() {
+    'listing: for instance in listed {
         put_working(numbers, hooks, *instance, lanes, cut)?;
     }
     Ok(())
@@ -135,14 +136,14 @@ fn put_listed(
 
 // Puts the numbers of all instances among these in whose hooks a render has work.
 fn put_all(
-    numbers: &mut HashSet<u64>,
+    numbers: &mut NumberSet,
     hooks: &HashMap<u64, Hooks>,
     lanes: Lanes,
     cut: Cut,
 ) -> Result<(), AllocError>
-    ensures all { OnOk result ((n : ℕ) (kept : List Hook) → lookup (nat_eq n) hooks.now.entries ≡ Some kept → HaveWork lanes cut kept → contains nat_eq numbers.new n ≡ true) }
-    ensures only { OnOk result (AreOnlyWorking lanes cut (λ n. lookup (nat_eq n) hooks.now.entries) (contains nat_eq numbers.old)
-        → AreOnlyWorking lanes cut (λ n. lookup (nat_eq n) hooks.now.entries) (contains nat_eq numbers.new)) }
+    ensures all { OnOk result ((n : ℕ) (kept : List Hook) → lookup (nat_eq n) hooks.now.entries ≡ Some kept → HaveWork lanes cut kept → holds numbers.new n ≡ true) }
+    ensures only { OnOk result (AreOnlyWorking lanes cut (λ n. lookup (nat_eq n) hooks.now.entries) (holds numbers.old)
+        → AreOnlyWorking lanes cut (λ n. lookup (nat_eq n) hooks.now.entries) (holds numbers.new)) }
 {
     'putting: for instance in hooks.keys() {
         put_working(numbers, hooks, *instance, lanes, cut)?;
@@ -301,6 +302,9 @@ impl HookStore {
         ensures calm { (s : Sight) (initials : List ℤ) → s.lanes ≡ lanes → s.cut ≡ cut → GivesValues s (kept_hooks self.now) instance initials
             → result ≡ false → hook_values s instance initials ≡ done_values s.program (known_by s) instance initials }
     {
+        if !self.busy.lists(instance) {
+            return false;
+        }
         let hooks = self.hooks.get(&instance).unwrap();
         hooks.work(lanes, cut) != Work::Nothing
     }
@@ -318,6 +322,9 @@ impl HookStore {
         ensures same { (s : Sight) (initials : List ℤ) → s.lanes ≡ lanes → s.cut ≡ cut → GivesValues s (kept_hooks self.now) instance initials
             → result ≡ false → hook_values (without_lanes s) instance initials ≡ hook_values s instance initials }
     {
+        if !self.busy.lists(instance) {
+            return false;
+        }
         let hooks = self.hooks.get(&instance).unwrap();
         hooks.work(lanes, cut) == Work::New
     }
@@ -328,25 +335,31 @@ impl HookStore {
     /// # Errors
     ///
     /// Only if out of memory.
-    pub fn working(&self, alloc: Global, lanes: Lanes, cut: Cut) -> Result<HashSet<u64>, AllocError>
-        ensures all { IfOk result (λ numbers. AreAllWorking lanes cut (kept_hooks self.now) (contains nat_eq numbers)) }
-        ensures only { IfOk result (λ numbers. AreOnlyWorking lanes cut (kept_hooks self.now) (contains nat_eq numbers)) }
+    pub fn working(&self, alloc: Global, lanes: Lanes, cut: Cut) -> Result<NumberSet, AllocError>
+        ensures all { IfOk result (λ numbers. AreAllWorking lanes cut (kept_hooks self.now) (holds numbers)) }
+        ensures only { IfOk result (λ numbers. AreOnlyWorking lanes cut (kept_hooks self.now) (holds numbers)) }
     {
-        let mut numbers = HashSet::new(alloc);
+        let mut numbers = NumberSet::new(alloc);
         if self.busy.all {
             put_all(&mut numbers, &self.hooks, lanes, cut)?;
         } else {
-            put_listed(&mut numbers, &self.hooks, &self.busy.numbers, lanes, cut)?;
+            put_listed(
+                &mut numbers,
+                &self.hooks,
+                self.busy.numbers.members(),
+                lanes,
+                cut,
+            )?;
         }
         Ok(numbers)
     }
 
     /// The numbers of the instances that may have queued updates, if they are listed one by one: in the hooks of any other no
     /// render has work, and it sees the values that are committed.
-    pub fn stirred(&self) -> Option<&HashSet<u64>>
-        ensures values { IfSome result (λ set. (s : Sight) (n : ℕ) (initials : List ℤ) → contains nat_eq set.now n ≡ false → s.cut.updates < 2 ^ 64
+    pub fn stirred(&self) -> Option<&NumberSet>
+        ensures values { IfSome result (λ set. (s : Sight) (n : ℕ) (initials : List ℤ) → holds set.now n ≡ false → s.cut.updates < 2 ^ 64
             → GivesValues s (kept_hooks self.now) n initials → hook_values s n initials ≡ done_values s.program (known_by s) n initials) }
-        ensures rest { IfSome result (λ set. (n : ℕ) (answers : Answers) (hooks : List Hook) (histories : List HookHistory) (lanes : Lanes) (cut : Cut) → contains nat_eq set.now n ≡ false
+        ensures rest { IfSome result (λ set. (n : ℕ) (answers : Answers) (hooks : List Hook) (histories : List HookHistory) (lanes : Lanes) (cut : Cut) → holds set.now n ≡ false
             → kept_hooks self.now n ≡ Some hooks → HooksStandFor answers hooks histories → cut.updates < 2 ^ 64 → has_work_in lanes cut histories ≡ false) }
     {
         if self.busy.all {

@@ -1,7 +1,8 @@
 -- Whether a number is among the members of a set, by the places where they stand.
-use Rattle.std.proofs.Common.{◌≡◌, ℕ, zero, suc, Bool, true, false, ◌||◌, nat_eq, Option, Some, None, List, [], ◌∷◌, ◌++◌, slice_get, refl, sym, ap, ◌∙◌, subst, arith}
+use Rattle.std.proofs.Common.{◌≡◌, ℕ, zero, suc, Bool, true, false, ◌||◌, ◌&&◌, nat_eq, Option, Some, None, List, [], ◌∷◌, ◌++◌, slice_get, refl, sym, ap, ◌∙◌, subst, arith}
 use Rattle.std.proofs.lemmas.Bool.Decides.{nat_tests}
 use Rattle.std.proofs.lemmas.List.Folds.{list_any-append}
+use Rattle.std.specs.List.{list_all}
 use Rattle.std.specs.Option.{option_eq}
 use Rattle.rx_set.specs.Sets.{holds}
 
@@ -79,3 +80,14 @@ not_some o n isnt is = go (sym (itself n) ∙ sym (ap (λ x. option_eq nat_eq x 
   where
     go : true ≡ false → ⊥
     go f = let g : ⊥ = cc in g
+
+-- if each member of a set is one of another, so is each number in it
+pub within : (members others : List ℕ) → list_all (holds others) members ≡ true → (n : ℕ) → holds members n ≡ true → holds others n ≡ true
+within [] others all n is = absurd (let f : ⊥ = cc in f)
+within (x ∷ xs) others all n is = go (nat_eq n x) refl (holds others x) refl all is (within xs others)
+  where
+    go : (a : Bool) → nat_eq n x ≡ a → (b : Bool) → holds others x ≡ b → (b && list_all (holds others) xs) ≡ true → (a || holds xs n) ≡ true
+        → (list_all (holds others) xs ≡ true → (n : ℕ) → holds xs n ≡ true → holds others n ≡ true) → holds others n ≡ true
+    go a e false f all is rest = absurd (let g : ⊥ = cc in g)
+    go true e true f all is rest = ap (holds others) (same_number n x e) ∙ f
+    go false e true f all is rest = rest all n is

@@ -89,7 +89,8 @@ impl NumberSet {
 
     /// Whether each member is one of another set.
     pub fn is_subset(&self, other: &NumberSet) -> bool
-        ensures { result ≡ list_all (holds other.now) self.now }
+        ensures all { result ≡ list_all (holds other.now) self.now }
+        ensures each { result ≡ true → (n : ℕ) → holds self.now n ≡ true → holds other.now n ≡ true }
     {
         'comparing: for place in 0..self.members.len() {
             if !other.has(self.members[place]) {

@@ -5,7 +5,6 @@ use Rattle.std.proofs.lemmas.List.{length-map}
 use Rattle.std.proofs.lemmas.List.Folds.{list_any-append}
 use Rattle.std.proofs.lemmas.Option.{slice_get-map, slice_get_within}
 use Rattle.std.specs.Borrow.{Bor}
-use Rattle.std.specs.HashSet.{HashSet, contains, hash_set_len}
 use Rattle.std.specs.List.{list_any}
 use Rattle.rx_base.specs.declared.cut.Cut.{Cut}
 use Rattle.rx_lane.specs.Lanes.{Lanes}
@@ -245,11 +244,3 @@ seen_at rs k r at = slice_get-map (λ (x : Bor Mounted). x.now) rs k ∙ ap (opt
 -- a list that references stand for is no longer than theirs
 pub seen_within : (rs : List (Bor Mounted)) (k : ℕ) (m : Mounted) → slice_get (seen rs) k ≡ Some m → k < length rs
 seen_within rs k m at = subst (λ (n : ℕ). k < n) (length-map rs (λ (x : Bor Mounted). x.now)) (slice_get_within (seen rs) k m at)
-
--- an empty set has no number
-pub set_is_empty : {S : Type 0} (s : HashSet ℕ S) → hash_set_len s ≡ 0 → (n : ℕ) → contains nat_eq s n ≡ false
-set_is_empty s none n = go s.keys none
-  where
-    go : (ks : List ℕ) → length ks ≡ 0 → list_any (nat_eq n) ks ≡ false
-    go [] e = refl
-    go (k ∷ ks) e = absurd (omega (arith, e))

@@ -1,21 +1,21 @@
 // The instances that are gone at a commit.
 ghost use Rattle.std.specs.Prelude.{◌≡◌, ℕ, true, not, ◌&&◌, nat_eq, IfOk, Some, slice_get};
-ghost use Rattle.std.specs.HashSet.{contains};
+ghost use Rattle.rx_set.specs.Sets.{holds};
 ghost use Rattle.std.specs.List.{list_any};
 ghost use Rattle.rx_elem.specs.Spots as spots;
 ghost use Rattle.rx_settle.specs.Passes.{has_instance, is_gone};
 
+use rx_set::NumberSet;
 use rx_spots::Mounted;
 use std::alloc::{AllocError, Global};
-use std::collections::HashSet;
 
 // The numbers of instances, each found at once.
-fn numbers_of(alloc: Global, instances: &[Mounted]) -> Result<HashSet<u64>, AllocError>
-    ensures { IfOk result (λ known. (n : ℕ) → contains nat_eq known n ≡ has_instance instances.now n) }
+fn numbers_of(alloc: Global, instances: &[Mounted]) -> Result<NumberSet, AllocError>
+    ensures { IfOk result (λ known. (n : ℕ) → holds known n ≡ has_instance instances.now n) }
 {
-    let mut known = HashSet::new(alloc);
+    let mut known = NumberSet::new(alloc);
     'knowing: for instance in instances {
-        known.insert(instance.number())?;
+        known.add(instance.number())?;
     }
     Ok(known)
 }
@@ -41,14 +41,14 @@ fn stand_as_before(before: &[Mounted], instances: &[Mounted]) -> bool
 fn numbers_beside(
     alloc: Global,
     before: &[Mounted],
-    known: &HashSet<u64>,
+    known: &NumberSet,
 ) -> Result<Vec<u64>, AllocError>
-    ensures { IfOk result (λ gone. (n : ℕ) → list_any (nat_eq n) gone.items ≡ (has_instance before.now n && not (contains nat_eq known.now n))) }
+    ensures { IfOk result (λ gone. (n : ℕ) → list_any (nat_eq n) gone.items ≡ (has_instance before.now n && not (holds known.now n))) }
 {
     let mut gone = Vec::new(alloc);
     'leaving: for instance in before {
         let number = instance.number();
-        if !known.contains(&number) {
+        if !known.has(number) {
             gone.push(number)?;
         }
     }

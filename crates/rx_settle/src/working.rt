@@ -1,6 +1,6 @@
 // The instances in whose hooks a render has work.
 ghost use Rattle.std.specs.Prelude.{◌≡◌, ℕ, true, false, cond, nat_eq, IfOk, length};
-ghost use Rattle.std.specs.HashSet.{contains};
+ghost use Rattle.rx_set.specs.Sets.{holds};
 ghost use Rattle.rx_hook_store.specs.Store.{kept_hooks};
 ghost use Rattle.rx_hook_store.specs.Working.{AreAllWorking};
 ghost use Rattle.rx_settle.specs.Passes.{has_instance};
@@ -9,16 +9,16 @@ ghost use Rattle.rx_settle.specs.Found.{AreTaken, HasWorking, seen};
 use rx_base::Cut;
 use rx_hook_store::HookStore;
 use rx_lane::Lanes;
+use rx_set::NumberSet;
 use rx_spots::Mounted;
 use std::alloc::{AllocError, Global};
-use std::collections::HashSet;
 
 // Takes a number out of a set, and tells whether it was there.
-fn take_number(numbers: &mut HashSet<u64>, number: u64) -> bool
-    ensures was { result ≡ contains nat_eq numbers.old number }
-    ensures others { (n : ℕ) → contains nat_eq numbers.new n ≡ cond (nat_eq number n) false (contains nat_eq numbers.old n) }
+fn take_number(numbers: &mut NumberSet, number: u64) -> bool
+    ensures was { result ≡ holds numbers.old number }
+    ensures others { (n : ℕ) → holds numbers.new n ≡ cond (nat_eq number n) false (holds numbers.old n) }
 {
-    numbers.remove(&number)
+    numbers.remove(number)
 }
 
 /// The instances whose numbers are in a set. Their numbers are taken out of it, and once it is empty no more are looked at.
@@ -28,10 +28,10 @@ fn take_number(numbers: &mut HashSet<u64>, number: u64) -> bool
 /// Only if out of memory.
 pub(crate) fn take_known<'a>(
     alloc: Global,
-    numbers: &mut HashSet<u64>,
+    numbers: &mut NumberSet,
     instances: &'a [Mounted],
 ) -> Result<Vec<&'a Mounted>, AllocError>
-    ensures { IfOk result (λ found. AreTaken (contains nat_eq numbers.old) (contains nat_eq numbers.new) instances.now (length instances.now) (seen found.items)) }
+    ensures { IfOk result (λ found. AreTaken (holds numbers.old) (holds numbers.new) instances.now (length instances.now) (seen found.items)) }
 {
     let mut found = Vec::new(alloc);
     'finding: for instance in instances {

@@ -1,5 +1,5 @@
 -- Where the instances of a list of trees are.
-use Rattle.std.specs.Prelude.{◌≡◌, ℕ, ◌≤◌, Bool, true, List, Option, Some, None, option_and_then, cond, filter, slice_get}
+use Rattle.std.specs.Prelude.{◌≡◌, ℕ, Bool, List, Option, Some, None, option_and_then, cond, filter, slice_get}
 use Rattle.rx_elem.specs.Spots.{Around, Mounted, Spot, mounted_at, numbers_of, spots, spots_in}
 use Rattle.rx_elem.specs.Trees.{Node, Forest, Mark, instance_in}
 use Rattle.rx_node.specs.Mounts.{mounts_within}
@@ -27,7 +27,3 @@ HaveSameIn old new = (a b : Around) → numbers_of (mounted_at (spots_in a old))
 -- the instances of a list whose numbers are asked for
 abbrev pub among : (asked : ℕ → Bool) → List Mounted → List Mounted
 among asked = filter (λ m. asked m.number)
-
--- the numbers that are asked for lie within these bounds
-abbrev pub AreWithin : (asked : ℕ → Bool) → (least greatest : ℕ) → Type 0
-AreWithin asked least greatest = (n : ℕ) → asked n ≡ true → (least ≤ n) × (n ≤ greatest)

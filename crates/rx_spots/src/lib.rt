@@ -3,7 +3,6 @@
 
 mod alike;
 mod around;
-mod asked;
 mod boundaries;
 mod counts;
 mod instance;

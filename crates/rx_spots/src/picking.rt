@@ -1,32 +1,30 @@
 // The instances of a tree whose numbers are asked for.
-ghost use Rattle.std.specs.Prelude.{◌≡◌, ◌++◌, [], nat_eq, IfOk, OnOk, option_and_then};
-ghost use Rattle.std.specs.HashSet.{contains};
+ghost use Rattle.std.specs.Prelude.{◌≡◌, ◌++◌, [], IfOk, OnOk, option_and_then};
 ghost use Rattle.std.specs.List.{cons_option};
 ghost use Rattle.std.specs.Option.{option_copied};
 ghost use Rattle.rx_elem.specs.Spots as spots;
 ghost use Rattle.rx_elem.specs.Spots.{mounted_as, mounted_at, spots_in};
 ghost use Rattle.rx_elem.specs.Trees.{forest, instance_in};
 ghost use Rattle.rx_node.specs.MarkView.{mark_seen};
-ghost use Rattle.rx_spots.specs.Places.{AreWithin, among};
+ghost use Rattle.rx_set.specs.Sets.{holds};
+ghost use Rattle.rx_spots.specs.Places.{among};
 
-use crate::asked::Asked;
 use crate::instance::Mounted;
 use rx_node::{Mark, Node};
+use rx_set::NumberSet;
 use rx_susp::BoundaryState;
 use std::alloc::{AllocError, Global};
-use std::collections::HashSet;
 
 // Adds the instance of a node with this mark, if it is one whose number is asked for.
 fn pick_own(
     mark: &Mark,
     owner: Option<u64>,
     visible: bool,
-    asked: &Asked<'_>,
+    asked: &NumberSet,
     found: &mut Vec<Mounted>,
 ) -> Result<(), AllocError>
-    requires { AreWithin (contains nat_eq asked.now.numbers.now) asked.now.least asked.now.greatest }
     ensures { OnOk result ((a : spots.Around) → a.owner ≡ owner → a.visible ≡ visible
-        → found.new.items ≡ found.old.items ++ among (contains nat_eq asked.now.numbers.now) (cons_option (option_and_then (mounted_as a) (instance_in (mark_seen mark.now))) [])) }
+        → found.new.items ≡ found.old.items ++ among (holds asked.now) (cons_option (option_and_then (mounted_as a) (instance_in (mark_seen mark.now))) [])) }
 {
     if let Mark::Instance(instance) = mark {
         if let Some(number) = instance.number {
@@ -64,12 +62,11 @@ fn pick_from(
     node: &Node,
     owner: Option<u64>,
     visible: bool,
-    asked: &Asked<'_>,
+    asked: &NumberSet,
     found: &mut Vec<Mounted>,
 ) -> Result<(), AllocError>
-    requires { AreWithin (contains nat_eq asked.now.numbers.now) asked.now.least asked.now.greatest }
     ensures { OnOk result ((a : spots.Around) → a.owner ≡ owner → a.visible ≡ visible
-        → found.new.items ≡ found.old.items ++ among (contains nat_eq asked.now.numbers.now) (mounted_at (spots.spots a node.now))) }
+        → found.new.items ≡ found.old.items ++ among (holds asked.now) (mounted_at (spots.spots a node.now))) }
 {
     if !node.mounts() {
         return Ok(());
@@ -91,12 +88,11 @@ fn pick_in(
     places: &[Option<Node>],
     owner: Option<u64>,
     visible: bool,
-    asked: &Asked<'_>,
+    asked: &NumberSet,
     found: &mut Vec<Mounted>,
 ) -> Result<(), AllocError>
-    requires { AreWithin (contains nat_eq asked.now.numbers.now) asked.now.least asked.now.greatest }
     ensures { OnOk result ((a : spots.Around) → a.owner ≡ owner → a.visible ≡ visible
-        → found.new.items ≡ found.old.items ++ among (contains nat_eq asked.now.numbers.now) (mounted_at (spots_in a (forest places.now)))) }
+        → found.new.items ≡ found.old.items ++ among (holds asked.now) (mounted_at (spots_in a (forest places.now)))) }
 {
     for place in places {
         if let Some(node) = place {
@@ -114,14 +110,13 @@ fn pick_in(
 pub fn mounted_among(
     alloc: Global,
     tree: Option<&Node>,
-    numbers: &HashSet<u64>,
+    numbers: &NumberSet,
 ) -> Result<Vec<Mounted>, AllocError>
-    ensures { IfOk result (λ found. found.items ≡ among (contains nat_eq numbers.now) (spots.mounted (option_copied tree.entry))) }
+    ensures { IfOk result (λ found. found.items ≡ among (holds numbers.now) (spots.mounted (option_copied tree.entry))) }
 {
     let mut found = Vec::new(alloc);
     if let Some(node) = tree {
-        let asked = Asked::new(numbers);
-        pick_from(node, None, true, &asked, &mut found)?;
+        pick_from(node, None, true, numbers, &mut found)?;
     }
     Ok(found)
 }

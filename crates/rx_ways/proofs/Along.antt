@@ -1,5 +1,5 @@
 -- What is found along a list of fibers, one after the other.
-use Rattle.std.proofs.Common.{◌≡◌, ℕ, suc, ◌+◌, ◌<◌, Bool, Option, Some, refl, sym, ap, ◌∙◌, arith}
+use Rattle.std.proofs.Common.{◌≡◌, ℕ, suc, ◌+◌, ◌<◌, Bool, Option, Some, sym, ap, ◌∙◌, arith}
 use Rattle.std.specs.Prelude.{◌||◌}
 use Rattle.rx_lists.specs.Shapes.{Shape, Holds, fiber, first, size}
 use Rattle.rx_links.specs.Drafts.{kids_of}

@@ -1,10 +1,10 @@
 -- What a walk finds among fibers is what it finds in the tree that they stand for.
-use Rattle.std.proofs.Common.{◌≡◌, ℕ, suc, List, Bool, true, false, Option, Some, None, refl, sym, ap, ◌∙◌, subst}
+use Rattle.std.proofs.Common.{◌≡◌, ℕ, suc, List, Bool, true, false, Option, Some, None, refl, sym, ap, ◌∙◌}
 use Rattle.std.specs.Prelude.{◌||◌, ◌&&◌, not, is_some}
 use Rattle.std.specs.Option.{option_map_or}
 use Rattle.std.proofs.lemmas.Bool.{or_parts}
 use Rattle.rx_elem.specs.Elements.{Element}
-use Rattle.rx_elem.specs.Trees.{Forest, Mark, Node, child, forest, instance_in, is_hidden, node, none, of_boundary, of_catcher, of_host, of_instance, plain, vacant}
+use Rattle.rx_elem.specs.Trees.{Forest, Mark, Node, child, instance_in, is_hidden, node, none, of_boundary, of_catcher, of_host, of_instance, plain, vacant}
 use Rattle.rx_lists.specs.Shapes.{Shape, fiber}
 use Rattle.rx_lists.specs.Shapes as shapes
 use Rattle.rx_meaning.specs.Settled.{is_numbered_so, number_of}
@@ -12,7 +12,7 @@ use Rattle.rx_node.specs.Hides.{hides_within, hides_in}
 use Rattle.rx_node.specs.Mounts.{mounts_in, mounts_within}
 use Rattle.rx_fiber.specs.declared.subtree.Subtree.{Subtree}
 use Rattle.rx_fiber.specs.Fibers.{Fiber, Stage, begun, fallback, joined, marked_subtree, own_subtree}
-use Rattle.rx_fiber.specs.Reading.{AreFor, IsFor, IsOf, IsTreeOf, has_node, no_more, gap, next, whole, alone, beside}
+use Rattle.rx_fiber.specs.Reading.{AreFor, IsFor, IsTreeOf, has_node, no_more, gap, next, whole, alone, beside}
 use Rattle.rx_fiber.specs.Subtrees.{IsGathered, subtrees_of}
 use Rattle.rx_ways.specs.Leads.{is_cause}
 use Rattle.rx_ways.specs.Walk.{finds, finds_in, finds_among, is_cause_at, is_spared, is_spared_at, number_at, puts, puts_in, puts_among, spares}

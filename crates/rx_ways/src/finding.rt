@@ -1,6 +1,6 @@
 // The instances at or above a cause, found by a walk along hints over the current fibers.
-ghost use Rattle.std.specs.Prelude.{◌≡◌, ◌||◌, ℕ, Option, true, nat_eq, IfOk, IfSome, OnOk, Some};
-ghost use Rattle.std.specs.HashSet.{contains};
+ghost use Rattle.std.specs.Prelude.{◌≡◌, ◌||◌, ℕ, Option, true, IfOk, IfSome, OnOk, Some};
+ghost use Rattle.rx_set.specs.Sets.{holds};
 ghost use Rattle.commit_laws.specs.HiddenWaits.{IfNumbered};
 ghost use Rattle.rx_elem.specs.Trees as trees;
 ghost use Rattle.rx_lists.specs.Shapes.{Holds};
@@ -18,8 +18,8 @@ use crate::ways::Ways;
 use rx_fiber::{Fiber, Stage};
 use rx_links::{FiberId, FiberTree};
 use rx_node::Mark;
+use rx_set::NumberSet;
 use std::alloc::{AllocError, Global};
-use std::collections::HashSet;
 
 // The number of the instance of a fiber.
 fn number_at(stage: &Stage) -> Option<u64>
@@ -32,11 +32,11 @@ fn number_at(stage: &Stage) -> Option<u64>
 }
 
 // Whether a node is a cause by its mark.
-fn is_cause(mark: &Mark, stirred: &HashSet<u64>) -> bool
-    ensures { result ≡ is_cause (contains nat_eq stirred.now) (mark_seen mark.now) }
+fn is_cause(mark: &Mark, stirred: &NumberSet) -> bool
+    ensures { result ≡ is_cause (holds stirred.now) (mark_seen mark.now) }
 {
     if let Some(number) = mark.instance_number()
-        && stirred.contains(&number)
+        && stirred.has(number)
     {
         return true;
     }
@@ -44,8 +44,8 @@ fn is_cause(mark: &Mark, stirred: &HashSet<u64>) -> bool
 }
 
 // Whether a fiber is a cause by its mark; one that is not begun has none.
-fn is_cause_at(stage: &Stage, stirred: &HashSet<u64>) -> bool
-    ensures { result ≡ is_cause_at (contains nat_eq stirred.now) (stage_seen stage.now) }
+fn is_cause_at(stage: &Stage, stirred: &NumberSet) -> bool
+    ensures { result ≡ is_cause_at (holds stirred.now) (stage_seen stage.now) }
 {
     match stage {
         Stage::Begun(mark) => is_cause(mark, stirred),
@@ -71,11 +71,11 @@ fn is_spared(fiber: &Fiber, before: &Ways, sent: &Ways) -> bool
 }
 
 // Puts the number of an instance on the ways.
-fn put(stage: &Stage, ways: &mut HashSet<u64>) -> Result<(), AllocError>
-    ensures { OnOk result ((n : ℕ) → contains nat_eq ways.new n ≡ contains nat_eq ways.old n || is_numbered_so n (number_at (stage_seen stage.now))) }
+fn put(stage: &Stage, ways: &mut NumberSet) -> Result<(), AllocError>
+    ensures { OnOk result ((n : ℕ) → holds ways.new n ≡ holds ways.old n || is_numbered_so n (number_at (stage_seen stage.now))) }
 {
     if let Some(number) = number_at(stage) {
-        ways.insert(number)?;
+        ways.add(number)?;
     }
     Ok(())
 }
@@ -85,14 +85,14 @@ fn put(stage: &Stage, ways: &mut HashSet<u64>) -> Result<(), AllocError>
 fn walk_from(
     tree: &FiberTree<Fiber>,
     id: FiberId,
-    stirred: &HashSet<u64>,
+    stirred: &NumberSet,
     before: &Ways,
     sent: &Ways,
-    ways: &mut HashSet<u64>,
+    ways: &mut NumberSet,
 ) -> Result<bool, AllocError>
     requires held { Holds tree.now.current id }
-    ensures finds { IfOk result (λ found. found ≡ finds_first (hinted before.now sent.now) (contains nat_eq stirred.now) (list_from tree.now.current (Some id))) }
-    ensures puts { OnOk result ((n : ℕ) → contains nat_eq ways.new n ≡ contains nat_eq ways.old n || puts_first (hinted before.now sent.now) (contains nat_eq stirred.now) n (list_from tree.now.current (Some id))) }
+    ensures finds { IfOk result (λ found. found ≡ finds_first (hinted before.now sent.now) (holds stirred.now) (list_from tree.now.current (Some id))) }
+    ensures puts { OnOk result ((n : ℕ) → holds ways.new n ≡ holds ways.old n || puts_first (hinted before.now sent.now) (holds stirred.now) n (list_from tree.now.current (Some id))) }
 {
     tree.facts();
     let fiber = tree.value(id);
@@ -112,14 +112,14 @@ fn walk_from(
 fn walk(
     tree: &FiberTree<Fiber>,
     first: Option<FiberId>,
-    stirred: &HashSet<u64>,
+    stirred: &NumberSet,
     before: &Ways,
     sent: &Ways,
-    ways: &mut HashSet<u64>,
+    ways: &mut NumberSet,
 ) -> Result<bool, AllocError>
     requires held { IfSome first (Holds tree.now.current) }
-    ensures finds { IfOk result (λ found. found ≡ finds_among (hinted before.now sent.now) (contains nat_eq stirred.now) (list_from tree.now.current first)) }
-    ensures puts { OnOk result ((n : ℕ) → contains nat_eq ways.new n ≡ contains nat_eq ways.old n || puts_among (hinted before.now sent.now) (contains nat_eq stirred.now) n (list_from tree.now.current first)) }
+    ensures finds { IfOk result (λ found. found ≡ finds_among (hinted before.now sent.now) (holds stirred.now) (list_from tree.now.current first)) }
+    ensures puts { OnOk result ((n : ℕ) → holds ways.new n ≡ holds ways.old n || puts_among (hinted before.now sent.now) (holds stirred.now) n (list_from tree.now.current first)) }
 {
     tree.facts();
     let mut found = false;
@@ -135,14 +135,14 @@ fn walk(
 fn walk_along(
     alloc: Global,
     tree: &FiberTree<Fiber>,
-    stirred: &HashSet<u64>,
+    stirred: &NumberSet,
     before: &Ways,
     sent: &Ways,
-) -> Result<HashSet<u64>, AllocError>
-    ensures { IfOk result (λ ways. (n : ℕ) → contains nat_eq ways n ≡ puts_among (hinted before.now sent.now) (contains nat_eq stirred.now) n tree.now.current) }
+) -> Result<NumberSet, AllocError>
+    ensures { IfOk result (λ ways. (n : ℕ) → holds ways n ≡ puts_among (hinted before.now sent.now) (holds stirred.now) n tree.now.current) }
 {
     tree.facts();
-    let mut ways = HashSet::new(alloc);
+    let mut ways = NumberSet::new(alloc);
     walk(tree, tree.current(), stirred, before, sent, &mut ways)?;
     Ok(ways)
 }
@@ -159,7 +159,7 @@ fn walk_along(
 pub fn find_ways(
     alloc: Global,
     tree: &FiberTree<Fiber>,
-    stirred: &HashSet<u64>,
+    stirred: &NumberSet,
     before: &Ways,
     sent: &Ways,
 ) -> Result<Ways, AllocError>
@@ -167,8 +167,8 @@ pub fn find_ways(
 
     // Below each instance on no way all is quiet, in each tree that the fibers stand for, whose instances have numbers of their own.
     ensures covers { IfOk result (λ w. (x : Option trees.Node) (next : ℕ) → IsTreeOf x tree.now.current → IfNumbered x → HasOwnNumbers next x
-        → CoversIf (is_way w) (IsQuiet (contains nat_eq stirred.now)) x) }
-    ensures exact { IfOk result (λ w. (x : Option trees.Node) (n : ℕ) → IsTreeOf x tree.now.current → is_way w n ≡ true → leads (contains nat_eq stirred.now) n x ≡ true) }
+        → CoversIf (is_way w) (IsQuiet (holds stirred.now)) x) }
+    ensures exact { IfOk result (λ w. (x : Option trees.Node) (n : ℕ) → IsTreeOf x tree.now.current → is_way w n ≡ true → leads (holds stirred.now) n x ≡ true) }
 {
     let mut numbers = walk_along(alloc, tree, stirred, before, sent)?;
     if !stirred.is_subset(&numbers) {

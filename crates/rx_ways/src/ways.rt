@@ -2,25 +2,24 @@
 ghost use Rattle.std.specs.Prelude.{◌≡◌, ℕ, true, false};
 ghost use Rattle.rx_ways.specs.Ways.{is_way};
 
+use rx_set::NumberSet;
 use std::alloc::Global;
-use std::collections::HashSet;
 use std::marker::Model;
 
 /// The numbers of the instances that stand on a way: at or above one with queued updates or with work, or a hidden boundary
 /// (React marks them by `childLanes`). If memory runs out for one of them, it is all instances.
 #[derive(Drop)]
 pub struct Ways {
-    pub(crate) numbers: HashSet<u64>,
+    pub(crate) numbers: NumberSet,
     pub(crate) all: bool,
 }
 
 impl Model for Ways {
-    ghost use Rattle.std.specs.HashSet.{keys};
     ghost use Rattle.rx_ways.specs.Ways as ways;
 
     ghost Value = { ways.Ways };
 
-    ghost view = { λ w. record { numbers = keys w.numbers; all = w.all } };
+    ghost view = { λ w. record { numbers = w.numbers; all = w.all } };
 }
 
 impl Ways {
@@ -29,7 +28,7 @@ impl Ways {
         ensures { (n : ℕ) → is_way result n ≡ false }
     {
         Ways {
-            numbers: HashSet::new(alloc),
+            numbers: NumberSet::new(alloc),
             all: false,
         }
     }
@@ -39,7 +38,7 @@ impl Ways {
         ensures { (n : ℕ) → is_way result n ≡ true }
     {
         Ways {
-            numbers: HashSet::new(alloc),
+            numbers: NumberSet::new(alloc),
             all: true,
         }
     }
@@ -49,7 +48,7 @@ impl Ways {
         ensures here { is_way self.new instance ≡ true }
         ensures others { (n : ℕ) → is_way self.old n ≡ true → is_way self.new n ≡ true }
     {
-        if self.numbers.insert(instance).is_err() {
+        if self.numbers.add(instance).is_err() {
             self.all = true;
         }
     }
@@ -58,6 +57,6 @@ impl Ways {
     pub fn has(&self, instance: u64) -> bool
         ensures { result ≡ is_way self.now instance }
     {
-        self.all || self.numbers.contains(&instance)
+        self.all || self.numbers.has(instance)
     }
 }

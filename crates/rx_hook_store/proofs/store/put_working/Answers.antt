@@ -26,9 +26,9 @@ returns-in_default-clause-here c kept at work =
           )
     ]
 
-pub returns-in_ok-insert-clause-only : goal.returns-in_ok-insert-clause-only
-returns-in_ok-insert-clause-only c before n answers hooks histories these at stand =
-    put_only c.args.instance n _ _ (has_work_in c.args.lanes c.args.cut histories ≡ true) (c.in_ok-insert.ensures.updates.0 n) these
+pub returns-in_ok-add-clause-only : goal.returns-in_ok-add-clause-only
+returns-in_ok-add-clause-only c before n answers hooks histories these at stand =
+    put_only c.args.instance n _ _ (has_work_in c.args.lanes c.args.cut histories ≡ true) (c.in_ok-add.ensures.holds n) these
     (λ same_n.
     let here = subst (λ (m : ℕ). lookup (nat_eq m) c.args.hooks.now.entries ≡ Some hooks) (sym same_n) at in
     let same = same_there _ hooks c.in-Some.kept.now here (sym c.get.ensures.value ∙ ap option_copied c.in-Some.is) in

@@ -1,6 +1,6 @@
 use Rattle.std.proofs.Common.{ℕ, Some, false, nat_eq, ◌≡◌, ◌∙◌, ap}
 use Rattle.std.proofs.lemmas.Result.{on_ok_weaker}
-use Rattle.std.specs.HashSet.{contains}
+use Rattle.rx_set.specs.Sets.{holds}
 use Rattle.std.specs.Option.{option_copied}
 use Rattle.rx_elem.specs.Spots.{mounted}
 use Rattle.rx_hook_store.specs.Store.{kept_hooks}
@@ -14,8 +14,8 @@ pub settle_working-requires-clause-kept : goal.settle_working-requires-clause-ke
 settle_working-requires-clause-kept c =
     let can = c.requires.can in
     let ms = mounted (Some c.args.pruned_new.now) in
-    let asked = contains nat_eq c.in_ok-numbers.numbers in
-    let left = contains nat_eq c.take_known.new.numbers in
+    let asked = holds c.in_ok-numbers.numbers in
+    let left = holds c.take_known.new.numbers in
     let ws = seen c.in_ok-working.working.items in
     let vs = seen c.deref-then-is_empty.result.now in
     let empty : (n : ℕ) → left n ≡ false = set_is_empty c.take_known.new.numbers (c.is_empty.ensures.0 c.if-is_empty.true) in
@@ -29,8 +29,8 @@ returns-then-is_empty-clause-settled c =
     let kept = kept_hooks c.args.store.now in
     let last = kept_hooks c.settle_working.new.store in
     let ms = mounted (Some c.args.pruned_new.now) in
-    let asked = contains nat_eq c.in_ok-numbers.numbers in
-    let left = contains nat_eq c.take_known.new.numbers in
+    let asked = holds c.in_ok-numbers.numbers in
+    let left = holds c.take_known.new.numbers in
     let ws = seen c.in_ok-working.working.items in
     let vs = seen c.deref-then-is_empty.result.now in
     let empty : (n : ℕ) → left n ≡ false = set_is_empty c.take_known.new.numbers (c.is_empty.ensures.0 c.if-is_empty.true) in
@@ -54,8 +54,8 @@ returns-then-is_empty-clause-gone c =
     let kept = kept_hooks c.args.store.now in
     let last = kept_hooks c.settle_working.new.store in
     let ms = mounted (Some c.args.pruned_new.now) in
-    let asked = contains nat_eq c.in_ok-numbers.numbers in
-    let left = contains nat_eq c.take_known.new.numbers in
+    let asked = holds c.in_ok-numbers.numbers in
+    let left = holds c.take_known.new.numbers in
     let ws = seen c.in_ok-working.working.items in
     let vs = seen c.deref-then-is_empty.result.now in
     let empty : (n : ℕ) → left n ≡ false = set_is_empty c.take_known.new.numbers (c.is_empty.ensures.0 c.if-is_empty.true) in

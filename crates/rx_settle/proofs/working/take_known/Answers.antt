@@ -1,5 +1,5 @@
 use Rattle.std.proofs.Common.{◌≡◌, ℕ, List, false, cond, refl, sym, ap, subst, ◌∙◌, ◌+◌, nat_eq}
-use Rattle.std.specs.HashSet.{contains}
+use Rattle.rx_set.specs.Sets.{holds}
 use Rattle.std.proofs.lemmas.List.{map-append}
 use Rattle.std.proofs.lemmas.Option.{slice_get_read}
 use Rattle.rx_elem.specs.Spots.{Mounted}
@@ -11,9 +11,9 @@ use Rattle.rx_settle.proofs.working.take_known.Goals.{then-take_number+in_ok-pus
 pub finding-preserved : goal.finding-preserved
 finding-preserved c =
     let instance = c.instance-item.result in
-    let old = contains nat_eq c.args.numbers.now in
-    let now = contains nat_eq c.finding.numbers in
-    let new = contains nat_eq c.take_number.new.numbers in
+    let old = holds c.args.numbers.now in
+    let now = holds c.finding.numbers in
+    let new = holds c.take_number.new.numbers in
     let at = slice_get_read c.args.instances.now _ c.finding.instance-index instance refl c.finding-test.true c.instance-item.is in
     let is = c.number.ensures in
     let updates : (n : ℕ) → new n ≡ cond (nat_eq instance.number n) false (now n) = λ n. c.take_number.ensures.others n ∙ ap (λ k. cond (nat_eq k n) false (now n)) is in

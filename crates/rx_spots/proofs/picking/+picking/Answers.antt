@@ -1,5 +1,5 @@
-use Rattle.std.proofs.Common.{append-nil, arith, nat_eq, ap, sym, ◌∙◌, ◌+◌, ◌++◌, drop}
-use Rattle.std.specs.HashSet.{contains}
+use Rattle.std.proofs.Common.{append-nil, arith, ap, sym, ◌∙◌, ◌+◌, ◌++◌, drop}
+use Rattle.rx_set.specs.Sets.{holds}
 use Rattle.std.proofs.lemmas.Result.{on_ok_weaker}
 use Rattle.rx_elem.specs.Trees.{children_of, forest, mark_of}
 use Rattle.rx_elem.specs.Spots.{mounted_at, spots_in, around_children}
@@ -13,13 +13,13 @@ use Rattle.rx_spots.proofs.picking.+picking.Goals.{pick_in-in-Some+in_ok-pick_fr
 
 pub pick_from-returns-then-not-mounts : goal.pick_from-returns-then-not-mounts
 pick_from-returns-then-not-mounts t c a owner visible =
-    let asked = contains nat_eq c.args.asked.now.numbers.now in
+    let asked = holds c.args.asked.now in
     let nothing = nothing_mounted a c.args.node.now (sym c.mounts.ensures ∙ c.if-not-mounts.true) in
     sym (append-nil c.args.found.now.items) ∙ ap (λ ms. c.args.found.now.items ++ among asked ms) (sym nothing)
 
 pub pick_from-returns : goal.pick_from-returns
 pick_from-returns t c =
-    let asked = contains nat_eq c.args.asked.now.numbers.now in
+    let asked = holds c.args.asked.now in
     let before = c.args.found.now.items in
     let own = c.pick_own.new.found.items in
     let inside = c.pick_in.new.found.items in
@@ -41,7 +41,7 @@ pick_in-pick_from-requires t c =
 
 pub pick_in-loop-place-preserved : goal.pick_in-loop-place-preserved
 pick_in-loop-place-preserved t c a owner visible =
-    let asked = contains nat_eq c.args.asked.now.numbers.now in
+    let asked = holds c.args.asked.now in
     elim c.match-place.branch [
       | pick_in-in-Some+in_ok-pick_from w ↦
           among-more asked a c.args.places.now c.loop-place.place-index c.place-item.result w.in-Some.node c.loop-place.found.items c.match-place.found.items

@@ -1,5 +1,5 @@
-use Rattle.std.proofs.Common.{◌≡◌, ◌+◌, ◌*◌, ◌++◌, drop, nat_eq}
-use Rattle.std.specs.HashSet.{contains}
+use Rattle.std.proofs.Common.{◌≡◌, ◌+◌, ◌*◌, ◌++◌, drop}
+use Rattle.rx_set.specs.Sets.{holds}
 use Rattle.rx_elem.specs.Spots.{Around, mounted_at, spots_in}
 use Rattle.rx_elem.specs.Trees.{forest, height, height_in}
 use Rattle.rx_spots.specs.Places.{among}
@@ -15,5 +15,5 @@ decreases-pick_in l = 2 * height_in (forest l.places.now) + 2
 abbrev pub invariant-pick_in-loop-place : goal.invariant-pick_in-loop-place
 invariant-pick_in-loop-place l =
     (a : Around) → a.owner ≡ l.owner → a.visible ≡ l.visible
-    → l.found.items ++ among (contains nat_eq l.asked.numbers.now) (mounted_at (spots_in a (forest (drop l.place-index l.places))))
-    ≡ l.initial.found.items ++ among (contains nat_eq l.asked.numbers.now) (mounted_at (spots_in a (forest l.places)))
+    → l.found.items ++ among (holds l.asked) (mounted_at (spots_in a (forest (drop l.place-index l.places))))
+    ≡ l.initial.found.items ++ among (holds l.asked) (mounted_at (spots_in a (forest l.places)))

@@ -1,9 +1,9 @@
-use Rattle.std.proofs.Common.{◌≡◌, ◌||◌, nat_eq, refl, sym, ap, ◌∙◌, subst, arith, IfSome}
-use Rattle.std.specs.HashSet.{contains}
+use Rattle.std.proofs.Common.{◌||◌, sym, ap, ◌∙◌, subst, arith, IfSome}
+use Rattle.rx_set.specs.Sets.{holds}
 use Rattle.rx_lists.specs.Shapes.{Holds}
 use Rattle.rx_links.specs.Readers.{list_from}
 use Rattle.rx_fiber.proofs.OldReads.{some_held, rest_held}
-use Rattle.rx_ways.specs.Walk.{finds_among, finds_first, hinted, puts_among}
+use Rattle.rx_ways.specs.Walk.{finds_among, hinted, puts_among}
 use Rattle.rx_ways.proofs.Along.{fewer_behind, found_more, put_more}
 use Rattle.rx_ways.proofs.Standing.{or_joined}
 use Rattle.rx_ways.proofs.finding.+walking.Goals as goal
@@ -13,7 +13,7 @@ walk-siblings-preserved t c =
     let current = c.args.tree.now.current in
     let linked = c.facts.ensures.linked in
     let hint = hinted c.args.before.now c.args.sent.now in
-    let stirred = contains nat_eq c.args.stirred.now in
+    let stirred = holds c.args.stirred.now in
     let i = c.in-Some.id in
     let o = c.siblings.next in
     let q = c.next_sibling-next.result in
@@ -28,8 +28,8 @@ walk-siblings-preserved t c =
           ∙ c.siblings.invariant.finds;
       puts = λ n.
           ap (λ b. b || puts_among hint stirred n (list_from current q)) (c.in_ok-found.ensures.puts n)
-          ∙ or_joined (contains nat_eq c.siblings.ways n) _ (puts_among hint stirred n (list_from current q))
-          ∙ ap (λ b. contains nat_eq c.siblings.ways n || b) (sym (put_more hint stirred current linked o q i held c.in-Some.is behind n))
+          ∙ or_joined (holds c.siblings.ways n) _ (puts_among hint stirred n (list_from current q))
+          ∙ ap (λ b. holds c.siblings.ways n || b) (sym (put_more hint stirred current linked o q i held c.in-Some.is behind n))
           ∙ c.siblings.invariant.puts n;
       within = omega (arith, within, less);
     }

@@ -1,5 +1,5 @@
-use Rattle.std.proofs.Common.{◌≡◌, ◌+◌, ◌*◌, ◌≤◌, ◌||◌, ℕ, Some, IfSome, nat_eq}
-use Rattle.std.specs.HashSet.{contains}
+use Rattle.std.proofs.Common.{◌≡◌, ◌+◌, ◌*◌, ◌≤◌, ◌||◌, ℕ, Some, IfSome}
+use Rattle.rx_set.specs.Sets.{holds}
 use Rattle.rx_lists.specs.Shapes.{Holds, size}
 use Rattle.rx_links.specs.Readers.{list_from}
 use Rattle.rx_ways.specs.Walk.{finds_among, hinted, puts_among}
@@ -15,10 +15,10 @@ decreases-walk l = 2 * size (list_from l.tree.now.current l.first) + 1
 abbrev pub invariant-walk-siblings : goal.invariant-walk-siblings
 invariant-walk-siblings l = record {
   inside : IfSome l.next (Holds l.tree.current);
-  finds : l.found || finds_among (hinted l.before l.sent) (contains nat_eq l.stirred) (list_from l.tree.current l.next)
-      ≡ finds_among (hinted l.before l.sent) (contains nat_eq l.stirred) (list_from l.tree.current l.initial.next);
-  puts : (n : ℕ) → contains nat_eq l.ways n || puts_among (hinted l.before l.sent) (contains nat_eq l.stirred) n (list_from l.tree.current l.next)
-      ≡ contains nat_eq l.initial.ways n || puts_among (hinted l.before l.sent) (contains nat_eq l.stirred) n (list_from l.tree.current l.initial.next);
+  finds : l.found || finds_among (hinted l.before l.sent) (holds l.stirred) (list_from l.tree.current l.next)
+      ≡ finds_among (hinted l.before l.sent) (holds l.stirred) (list_from l.tree.current l.initial.next);
+  puts : (n : ℕ) → holds l.ways n || puts_among (hinted l.before l.sent) (holds l.stirred) n (list_from l.tree.current l.next)
+      ≡ holds l.initial.ways n || puts_among (hinted l.before l.sent) (holds l.stirred) n (list_from l.tree.current l.initial.next);
   within : size (list_from l.tree.current l.next) ≤ size (list_from l.tree.current l.initial.next);
 }
 

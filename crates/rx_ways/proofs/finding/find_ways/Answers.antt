@@ -1,5 +1,5 @@
-use Rattle.std.proofs.Common.{◌≡◌, ◌∙◌, ◌||◌, ℕ, Bool, true, false, Option, Some, None, nat_eq, ap, refl, sym}
-use Rattle.std.specs.HashSet.{contains}
+use Rattle.std.proofs.Common.{◌≡◌, ◌∙◌, ◌||◌, ℕ, Bool, true, false, Option, Some, None, ap, refl, sym}
+use Rattle.rx_set.specs.Sets.{holds}
 use Rattle.rx_elem.specs.Trees.{Node}
 use Rattle.rx_lists.specs.Shapes.{Shape}
 use Rattle.commit_laws.specs.HiddenWaits.{IfNumbered}
@@ -35,29 +35,29 @@ leading h s way c g ways (Some x) n is on = put-leads h s n x (sym (tree_put h s
 
 pub returns-clause-covers : goal.returns-clause-covers
 returns-clause-covers c =
-    let way = contains nat_eq c.if-not-is_subset.numbers in
-    let stirred = contains nat_eq c.args.stirred.now in
+    let way = holds c.if-not-is_subset.numbers in
+    let stirred = holds c.args.stirred.now in
     let current = c.args.tree.now.current in
     elim c.if-not-is_subset.branch [
       | then-not-is_subset+in_ok-numbers-2 w ↦
           let everything = w.everything-everything.result in
           throughout (hinted everything everything) stirred way current c.requires.gathered (λ n. ap (λ b. b || b) (w.everything-everything.ensures n))
-          (λ n. ap (λ ns. contains nat_eq ns n) w.numbers-is ∙ w.in_ok-numbers-2.ensures n)
+          (λ n. ap (λ ns. holds ns n) w.numbers-is ∙ w.in_ok-numbers-2.ensures n)
       | else-not-is_subset w ↦
           along (hinted c.args.before.now c.args.sent.now) stirred way current c.requires.gathered
-          (λ n. ap (λ ns. contains nat_eq ns n) w.numbers-is ∙ c.in_ok-numbers.ensures n)
-          (λ n st. ap (λ ns. contains nat_eq ns n) w.numbers-is ∙ w.if-not-is_subset.ensures.0 refl n st)
+          (λ n. ap (λ ns. holds ns n) w.numbers-is ∙ c.in_ok-numbers.ensures n)
+          (λ n st. ap (λ ns. holds ns n) w.numbers-is ∙ w.if-not-is_subset.ensures.each refl n st)
     ]
 
 pub returns-clause-exact : goal.returns-clause-exact
 returns-clause-exact c =
-    let way = contains nat_eq c.if-not-is_subset.numbers in
-    let stirred = contains nat_eq c.args.stirred.now in
+    let way = holds c.if-not-is_subset.numbers in
+    let stirred = holds c.args.stirred.now in
     let current = c.args.tree.now.current in
     elim c.if-not-is_subset.branch [
       | then-not-is_subset+in_ok-numbers-2 w ↦
           let everything = w.everything-everything.result in
-          leading (hinted everything everything) stirred way current c.requires.gathered (λ n. ap (λ ns. contains nat_eq ns n) w.numbers-is ∙ w.in_ok-numbers-2.ensures n)
+          leading (hinted everything everything) stirred way current c.requires.gathered (λ n. ap (λ ns. holds ns n) w.numbers-is ∙ w.in_ok-numbers-2.ensures n)
       | else-not-is_subset w ↦
-          leading (hinted c.args.before.now c.args.sent.now) stirred way current c.requires.gathered (λ n. ap (λ ns. contains nat_eq ns n) w.numbers-is ∙ c.in_ok-numbers.ensures n)
+          leading (hinted c.args.before.now c.args.sent.now) stirred way current c.requires.gathered (λ n. ap (λ ns. holds ns n) w.numbers-is ∙ c.in_ok-numbers.ensures n)
     ]

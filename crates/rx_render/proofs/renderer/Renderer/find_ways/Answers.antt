@@ -1,6 +1,5 @@
-use Rattle.std.specs.Prelude.{nat_eq}
 use Rattle.std.proofs.Common.{subst, sym}
-use Rattle.std.specs.HashSet.{contains}
+use Rattle.rx_set.specs.Sets.{holds}
 use Rattle.rx_model.specs.HooksOf.{KeepsAllHooks}
 use Rattle.rx_hook_store.specs.Store.{kept_hooks}
 use Rattle.rx_hook_store.specs.Working.{AreOnlyWorking}
@@ -15,7 +14,7 @@ use Rattle.rx_render.proofs.renderer.Renderer.find_ways.Goals as goal
 pub returns-clause-idle : goal.returns-clause-idle
 returns-clause-idle c =
     let kept = kept_hooks c.self.inside.hooks in
-    let working = contains nat_eq c.in_ok-working.working in
+    let working = holds c.in_ok-working.working in
     let calm = others_rest working kept c.args.lanes c.args.cut c.in_ok-working.ensures.all in
     if_ok c.find_ways.result
     (λ w covers s tree next lanes_are cut_is gives is numbered own.
@@ -25,7 +24,7 @@ returns-clause-idle c =
 pub returns-clause-undue : goal.returns-clause-undue
 returns-clause-undue c =
     let kept = kept_hooks c.self.inside.hooks in
-    let working = contains nat_eq c.in_ok-working.working in
+    let working = holds c.in_ok-working.working in
     let calm = others_rest working kept c.args.lanes c.args.cut c.in_ok-working.ensures.all in
     if_ok c.find_ways.result
     (λ w covers p st g next lanes_are cut_is keeps is numbered own.
@@ -34,7 +33,7 @@ returns-clause-undue c =
 
 pub returns-clause-lead : goal.returns-clause-lead
 returns-clause-lead c =
-    let working = contains nat_eq c.in_ok-working.working in
+    let working = holds c.in_ok-working.working in
     if_ok c.find_ways.result
     (λ w exact tree n is on. record {
       these = working;
