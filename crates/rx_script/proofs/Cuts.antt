@@ -12,13 +12,17 @@ use Rattle.rx_script.specs.Pieces.{IsLineEnd, HasNoLineEnd, IsCut, IsLast}
 pub is_not : (a b : ℕ) → (a ≢ b) → (a == b) ≡ false
 is_not a b h = grind arith
 
-pieces-at : (text : List ℕ) (at : ℕ) → at < length text → get_or text at 0 ≡ 10 → ((k : ℕ) → k < at → get_or text k 0 ≢ 10)
-    → slice_split is_line_end text ≡ take at text ∷ slice_split is_line_end (drop (at + 1) text)
-pieces-at [] at in_text here first = absurd (omega arith)
-pieces-at (b ∷ text) zero in_text here first = let e : b ≡ 10 = here in rw e refl
-pieces-at (b ∷ text) (suc at) in_text here first =
-    let rest = rw add-one at (pieces-at text at (omega arith) here (λ k h. first (suc k) (omega arith))) in
-    rw (is_not b 10 (first 0 (omega arith)), add-one) (ap (onto_first b) rest)
+is_same : (a b : ℕ) → a ≡ b → (a == b) ≡ true
+is_same a b h = grind arith
+
+-- what stands before the first of a byte is a piece
+pub pieces-at : (c : ℕ) (text : List ℕ) (at : ℕ) → at < length text → get_or text at 0 ≡ c → ((k : ℕ) → k < at → get_or text k 0 ≢ c)
+    → slice_split (λ b. b == c) text ≡ take at text ∷ slice_split (λ b. b == c) (drop (at + 1) text)
+pieces-at c [] at in_text here first = absurd (omega arith)
+pieces-at c (b ∷ text) zero in_text here first = rw (is_same b c here) refl
+pieces-at c (b ∷ text) (suc at) in_text here first =
+    let rest = rw add-one at (pieces-at c text at (omega arith) here (λ k h. first (suc k) (omega arith))) in
+    rw (is_not b c (first 0 (omega arith)), add-one) (ap (onto_first b) rest)
 
 whole-at : (text : List ℕ) (at : ℕ) → at < length text → get_or text at 0 ≡ 10 → text ≡ take at text ++ 10 ∷ drop (at + 1) text
 whole-at [] at in_text here = absurd (omega arith)
@@ -28,15 +32,16 @@ whole-at (b ∷ text) (suc at) in_text here =
 
 pub cut-at : (text : List ℕ) (at : ℕ) → IsLineEnd text at → IsCut text (take at text) (drop (at + 1) text)
 cut-at text at e =
-    record { whole = whole-at text at e.within e.here; pieces = pieces-at text at e.within e.here e.first }
+    record { whole = whole-at text at e.within e.here; pieces = pieces-at 10 text at e.within e.here e.first }
 
-pieces-whole : (text : List ℕ) → ((k : ℕ) → k < length text → get_or text k 0 ≢ 10) → slice_split is_line_end text ≡ text ∷ []
-pieces-whole [] none = refl
-pieces-whole (b ∷ text) none =
-    rw (is_not b 10 (none 0 (omega arith))) (ap (onto_first b) (pieces-whole text (λ k h. none (suc k) (omega arith))))
+-- a text without a byte is one piece
+pub pieces-whole : (c : ℕ) (text : List ℕ) → ((k : ℕ) → k < length text → get_or text k 0 ≢ c) → slice_split (λ b. b == c) text ≡ text ∷ []
+pieces-whole c [] none = refl
+pieces-whole c (b ∷ text) none =
+    rw (is_not b c (none 0 (omega arith))) (ap (onto_first b) (pieces-whole c text (λ k h. none (suc k) (omega arith))))
 
 pub last-whole : (text : List ℕ) → HasNoLineEnd text → IsLast text text
-last-whole text none = record { whole = refl; pieces = pieces-whole text none }
+last-whole text none = record { whole = refl; pieces = pieces-whole 10 text none }
 
 -- the parts of an input behind this much of the program
 abbrev pub behind : List ℕ → Input → Input

@@ -15,7 +15,7 @@ use Rattle.rx_script.specs.declared.script.ScriptError.TheVariants.{BadLine, Unk
 use Rattle.rx_script.specs.declared.line.LineError.{LineError}
 use Rattle.rx_script.specs.declared.line.LineError.TheVariants as line
 use Rattle.rx_step.specs.Steps.{Path, path_of}
-use Rattle.rx_script.specs.Words.{lower_of, natural_of, opposite}
+use Rattle.rx_script.specs.Words.{lower_of, natural_of, opposite, upper_of}
 use Rattle.rx_script.specs.Lines.{◌◂◌, lane_of, path_of as written_path, operand, is_integer, path_in_bounds, step_limit, bad_line, unknown_target, out_of_range, Line, silent, good, bad, BadStep}
 
 -- numbers that are read are held here, above every bound of a script
@@ -38,6 +38,10 @@ below_of w = option_and_then opposite (natural_of w)
 -- a part of a path with its number held
 abbrev pub held_part : Name × ℕ → Name × ℕ
 held_part part = (part.0, held part.1)
+
+-- a part of a path from its name and its number
+abbrev pub numbered : (name number : Text) → Option (Name × ℕ)
+numbered n k = Some (λ name number. (name, number)) ◂ upper_of n ◂ natural_of k
 
 -- a path with held numbers
 abbrev pub held_path : Path → Path

@@ -1,9 +1,12 @@
 // Paths to component instances.
-ghost use Rattle.std.specs.Prelude.{◌≡◌, ◌++◌, map, option_map, IfOk};
+ghost use Rattle.std.specs.Prelude.{◌≡◌, ◌<◌, List, [], ◌∷◌, ◌++◌, None, length, option_map, IfNone, IfOk, IfSome};
 ghost use Rattle.std.specs.List.{slice_split};
+ghost use Rattle.rx_base.specs.Values.{Text};
 ghost use Rattle.rx_rules.specs.Versions.{instance_limit};
 ghost use Rattle.rx_script.specs.Lines.{is_at_sign, is_slash, part_of, parts_of, path_in_bounds, path_of};
-ghost use Rattle.rx_script.specs.Readings.{held_part, held_path};
+ghost use Rattle.rx_script.specs.Pieces.{HasNone, IsFirst};
+ghost use Rattle.rx_script.specs.Readings.{held_part, held_path, numbered};
+ghost use Rattle.rx_script.specs.Words.{upper_of};
 
 use crate::words::{natural, upper};
 use rx_base::Name;
@@ -11,74 +14,100 @@ use rx_check::Checked;
 use rx_step::Path;
 use std::alloc::{AllocError, Global};
 
-/// The pieces of a word between slashes.
-fn between_slashes<'a>(alloc: Global, word: &'a [u8]) -> Result<Vec<&'a [u8]>, AllocError>
-    ensures { IfOk result (λ ps. map (λ p. p.now) ps.items ≡ slice_split is_slash word.now) }
+/// The place of the first slash.
+fn slash(word: &[u8]) -> Option<usize>
+    ensures found { IfSome result (λ at. IsFirst 47 word.now at) }
+    ensures none { IfNone result (HasNone 47 word.now) }
 {
-    word.split(|b| *b == b'/').collect(alloc)
+    word.iter().position(|b| *b == b'/')
 }
 
-/// The pieces of a word between at signs.
-fn between_at_signs<'a>(alloc: Global, word: &'a [u8]) -> Result<Vec<&'a [u8]>, AllocError>
-    ensures { IfOk result (λ ps. map (λ p. p.now) ps.items ≡ slice_split is_at_sign word.now) }
+/// The piece before the first slash, and what stands behind it, if there is one.
+fn first_piece(word: &[u8]) -> (&[u8], Option<&[u8]>)
+    ensures piece { (more : List Text) × (slice_split is_slash word.now ≡ result.0.now ∷ more) }
+    ensures cut { IfSome result.1 (λ after. slice_split is_slash word.now ≡ result.0.now ∷ slice_split is_slash after.now) }
+    ensures shorter { IfSome result.1 (λ after. length after.now < length word.now) }
+    ensures last { IfNone result.1 (slice_split is_slash word.now ≡ result.0.now ∷ []) }
 {
-    word.split(|b| *b == b'@').collect(alloc)
-}
-
-/// A part of a path: a name, or a name and a number, which is held.
-fn part(alloc: Global, pieces: &[&[u8]]) -> Result<Option<(Name, u64)>, AllocError>
-    ensures { IfOk result (λ p. p ≡ option_map held_part (part_of (map (λ p. p.now) pieces.now))) }
-{
-    match pieces {
-        [name] => Ok(upper(alloc, name)?.map(|name| (name, 0))),
-        [name, place] => {
-            let Some(place) = natural(place) else {
-                return Ok(None);
-            };
-            Ok(upper(alloc, name)?.map(|name| (name, place)))
-        }
-        _ => Ok(None),
+    match slash(word) {
+        Some(at) => (&word[..at], Some(&word[at + 1..])),
+        None => (word, None),
     }
 }
 
-/// A part of a path, from its text.
+/// The place of the first at sign.
+fn at_sign(word: &[u8]) -> Option<usize>
+    ensures found { IfSome result (λ at. IsFirst 64 word.now at) }
+    ensures none { IfNone result (HasNone 64 word.now) }
+{
+    word.iter().position(|b| *b == b'@')
+}
+
+/// A part of a path with this name and this number, which is held.
+fn placed(alloc: Global, name: &[u8], place: &[u8]) -> Result<Option<(Name, u64)>, AllocError>
+    ensures { IfOk result (λ p. p ≡ option_map held_part (numbered name.now place.now)) }
+{
+    let Some(place) = natural(place) else {
+        return Ok(None);
+    };
+    Ok(upper(alloc, name)?.map(|name| (name, place)))
+}
+
+/// A part of a path that is more than a name.
+fn numbered_part(alloc: Global, word: &[u8]) -> Result<Option<(Name, u64)>, AllocError>
+    requires { upper_of word.now ≡ None }
+    ensures { IfOk result (λ p. p ≡ option_map held_part (part_of (slice_split is_at_sign word.now))) }
+{
+    match at_sign(word) {
+        Some(at) => placed(alloc, &word[..at], &word[at + 1..]),
+        None => Ok(None),
+    }
+}
+
+/// A part of a path: a name, or a name and a number, which is held.
 fn read_part(alloc: Global, word: &[u8]) -> Result<Option<(Name, u64)>, AllocError>
     ensures { IfOk result (λ p. p ≡ option_map held_part (part_of (slice_split is_at_sign word.now))) }
 {
-    part(alloc, &between_at_signs(alloc, word)?)
+    match upper(alloc, word)? {
+        Some(name) => Ok(Some((name, 0))),
+        None => numbered_part(alloc, word),
+    }
 }
 
 /// The parts of a path behind those that were read.
 fn push_parts(
     alloc: Global,
     mut parts: Vec<(Name, u64)>,
-    pieces: &[&[u8]],
+    word: &[u8],
 ) -> Result<Option<Vec<(Name, u64)>>, AllocError>
-    ensures { IfOk result (λ ps. option_map (λ v. v.items) ps ≡ option_map (λ more. parts.items ++ held_path more) (parts_of (map (λ p. p.now) pieces.now))) }
+    ensures { IfOk result (λ ps. option_map (λ v. v.items) ps ≡ option_map (λ more. parts.items ++ held_path more) (parts_of (slice_split is_slash word.now))) }
 {
-    'parts: for piece in pieces {
+    let mut rest = word;
+    'parts: loop {
+        let (piece, after) = first_piece(rest);
         match read_part(alloc, piece)? {
             Some(part) => parts.push(part)?,
             None => return Ok(None),
         }
+        let Some(after) = after else {
+            return Ok(Some(parts));
+        };
+        rest = after;
     }
-    Ok(Some(parts))
 }
 
 /// The path that a word is, with its numbers held.
 pub(crate) fn read_path(alloc: Global, word: &[u8]) -> Result<Option<Path>, AllocError>
     ensures { IfOk result (λ p. p ≡ option_map held_path (path_of word.now)) }
 {
-    let pieces = between_slashes(alloc, word)?;
-    match pieces.as_slice() {
-        [] => Ok(None),
-        [first, rest @ ..] => {
-            let Some(root) = upper(alloc, first)? else {
-                return Ok(None);
-            };
-            let parts = vec![in alloc; (root, 0)]?;
-            Ok(push_parts(alloc, parts, rest)?.map(|parts| Path { parts }))
-        }
+    let (first, rest) = first_piece(word);
+    let Some(root) = upper(alloc, first)? else {
+        return Ok(None);
+    };
+    let parts = vec![in alloc; (root, 0)]?;
+    match rest {
+        Some(rest) => Ok(push_parts(alloc, parts, rest)?.map(|parts| Path { parts })),
+        None => Ok(Some(Path { parts })),
     }
 }
 
