@@ -4,6 +4,7 @@ pub mod Making
 pub mod Matched
 pub mod Waiting
 pub mod Cloning
+pub mod Alone
 pub mod Nodes
 pub mod Nexts
 pub mod OldNodes

@@ -1,8 +1,8 @@
 // Clones of the fibers of a current list.
 ghost use Rattle.std.specs.Prelude.{◌≡◌, ◌<◌, ◌^◌, ◌-◌, ◌++◌, None, Some, length, map, IfOk, IfSome, OnOk};
-ghost use Rattle.rx_lists.specs.Shapes.{Holds, IsTop};
+ghost use Rattle.rx_lists.specs.Shapes.{first, Holds, IsTop};
 ghost use Rattle.rx_links.specs.Drafts.{IsOpen, IsUnused, old_kids};
-ghost use Rattle.rx_links.specs.Readers.{list_from};
+ghost use Rattle.rx_links.specs.Readers.{list_from, rest_of};
 ghost use Rattle.rx_fiber.specs.Fibers.{as_cloned};
 ghost use Rattle.rx_fiber.specs.OldLists.{filled, told, old_elements, old_fibers};
 ghost use Rattle.rx_children.specs.Children.{element_or_null, HasRoomFor, HasAdded, HasMadeFrom};
@@ -106,6 +106,67 @@ fn clone_all(
     Ok(())
 }
 
+// Makes the clone of a current fiber that stands alone in its list, at its place; that of a fallback stands in no place.
+fn clone_only(
+    tree: &mut FiberTree<Fiber>,
+    at: FiberId,
+    id: FiberId,
+    visible: bool,
+) -> Result<(), AllocError>
+    requires held { Holds tree.old.current id }
+    requires alone { first (rest_of tree.old.current id) ≡ None }
+    requires beside { IsBareBeside tree.old at (Some id) }
+    ensures made { OnOk result (HasMadeFrom (as_cloned visible) 0 tree.old tree.new at (old_elements (list_from tree.old.current (Some id))) (old_fibers (list_from tree.old.current (Some id)))) }
+    ensures current { tree.new.current ≡ tree.old.current }
+{
+    tree.facts();
+    tree.place_facts();
+    let fiber = tree.value(id);
+    if is_fallback(fiber.stage()) {
+        return Ok(());
+    }
+    let place = fiber.place();
+    clone_one(tree, at, place, Some(id), visible)
+}
+
+// Makes the clones of the fibers of a current list, which are told first, so that they are made from the last to the first.
+fn clone_list(
+    alloc: Global,
+    tree: &mut FiberTree<Fiber>,
+    at: FiberId,
+    first_old: Option<FiberId>,
+    visible: bool,
+) -> Result<(), AllocError>
+    requires held { IfSome first_old (Holds tree.old.current) }
+    requires beside { IsBareBeside tree.old at first_old }
+    ensures made { OnOk result (HasMadeFrom (as_cloned visible) 0 tree.old tree.new at (old_elements (list_from tree.old.current first_old)) (old_fibers (list_from tree.old.current first_old))) }
+    ensures current { tree.new.current ≡ tree.old.current }
+{
+    tree.facts();
+    let fibers = list_fibers(alloc, tree, first_old)?;
+    count_places(fibers.len())?;
+    clone_all(tree, at, &fibers, visible)
+}
+
+// Makes the clones of a current list that begins with this fiber: a list is told first only if it has more.
+fn clone_from(
+    alloc: Global,
+    tree: &mut FiberTree<Fiber>,
+    at: FiberId,
+    id: FiberId,
+    visible: bool,
+) -> Result<(), AllocError>
+    requires held { Holds tree.old.current id }
+    requires beside { IsBareBeside tree.old at (Some id) }
+    ensures made { OnOk result (HasMadeFrom (as_cloned visible) 0 tree.old tree.new at (old_elements (list_from tree.old.current (Some id))) (old_fibers (list_from tree.old.current (Some id)))) }
+    ensures current { tree.new.current ≡ tree.old.current }
+{
+    match tree.next_sibling(id) {
+        Some(_) => clone_list(alloc, tree, at, Some(id), visible),
+        None => clone_only(tree, at, id, visible),
+    }
+}
+
 /// Makes clones of the children of a current list below a made fiber that has none: each for its old fiber, at its place and with
 /// its element, so that nothing is matched. They are made from the last to the first. `visible` tells whether the old ones
 /// are shown.
@@ -125,8 +186,8 @@ pub fn clone_children(
     ensures made { OnOk result (HasMadeFrom (as_cloned visible) 0 tree.old tree.new at (old_elements (list_from tree.old.current first_old)) (old_fibers (list_from tree.old.current first_old))) }
     ensures current { tree.new.current ≡ tree.old.current }
 {
-    tree.facts();
-    let fibers = list_fibers(alloc, tree, first_old)?;
-    count_places(fibers.len())?;
-    clone_all(tree, at, &fibers, visible)
+    match first_old {
+        Some(id) => clone_from(alloc, tree, at, id, visible),
+        None => clone_list(alloc, tree, at, None, visible),
+    }
 }

@@ -1,16 +1,17 @@
 // A node begins over its children.
-ghost use Rattle.std.specs.Prelude.{◌≡◌, IfOk, OnOk, IfSome, IsSome, option_and_then, option_map};
+ghost use Rattle.std.specs.Prelude.{◌≡◌, Some, IfOk, OnOk, IfSome, IsSome, option_and_then, option_map};
 ghost use Rattle.rx_lists.specs.Shapes.{Holds};
-ghost use Rattle.rx_elem.specs.Trees.{caught_in, host_number, instance_in};
+ghost use Rattle.rx_elem.specs.Trees.{Mark as MarkSeen, caught_in, host_number, instance_in};
 ghost use Rattle.rx_links.specs.Drafts.{Makes, old_of};
-ghost use Rattle.rx_links.specs.Readers.{list_from};
+ghost use Rattle.rx_links.specs.Readers.{list_from, made_value_of};
+ghost use Rattle.rx_fiber.specs.Fibers as fibers;
 ghost use Rattle.rx_fiber.specs.Fibers.{as_cloned, as_matched};
 ghost use Rattle.rx_fiber.specs.FiberView.{stage_seen};
 ghost use Rattle.rx_node.specs.MarkView.{instance_seen, mark_seen};
 ghost use Rattle.rx_fiber.specs.OldLists.{matched, old_elements, old_fibers, primary_list};
 ghost use Rattle.rx_fiber.specs.Subtrees.{subtree_at};
 ghost use Rattle.rx_causes.specs.Marks.{keeps_children, mark_at};
-ghost use Rattle.rx_children.specs.Nodes.{IsBareAt, IsBareBeside, HasStage, HasList, HasOpened, HasTaken, begun_from};
+ghost use Rattle.rx_children.specs.Nodes.{IsBareAt, IsBareBeside, HasStage, HasList, HasOpened, HasTaken, begun_from, taken_as};
 
 use crate::children::make_children;
 use crate::clones::clone_children;
@@ -238,12 +239,32 @@ pub fn keep_node(
     Ok(begun_from(first))
 }
 
+// The fiber that takes over what is below its old node: it has the mark of that node, and what is kept of what is at or below it.
+fn taken_fiber(tree: &FiberTree<Fiber>, at: FiberId) -> Result<Fiber, AllocError>
+    requires bare { IsBareAt tree.now at }
+    requires there { IsSome (mark_at tree.now.current (old_of tree.now.draft at)) }
+    ensures { IfOk result (λ f. (v : fibers.Fiber) (m : MarkSeen) → Some v ≡ made_value_of tree.now.draft at → mark_at tree.now.current (old_of tree.now.draft at) ≡ Some m
+        → f ≡ taken_as m (subtree_at tree.now.current (old_of tree.now.draft at)) v) }
+{
+    tree.place_facts();
+    let below = old_subtree(tree, tree.alternate(at));
+    let fiber = tree.value(at);
+    let mark = match old_mark(tree, tree.alternate(at)) {
+        Some(mark) => mark.copy()?,
+        None => unreachable!(),
+    };
+    let element = fiber.element().copy()?;
+    let mut taken = Fiber::new(fiber.place(), element, Stage::Begun(mark));
+    taken.change(StageChange::Complete(below));
+    Ok(taken)
+}
+
 /// Takes the children of a fiber's old node over as they stand, by one link: the fiber gets the mark of that node, and what is kept
 /// of what is at or below it. No fiber is made.
 ///
 /// # Errors
 ///
-/// Only if out of memory. What was taken over then stays below the fiber.
+/// Only if out of memory. Then nothing is taken over.
 pub fn take_node(tree: &mut FiberTree<Fiber>, at: FiberId) -> Result<(), AllocError>
     requires bare { IsBareAt tree.old at }
     requires there { IsSome (mark_at tree.old.current (old_of tree.old.draft at)) }
@@ -251,15 +272,9 @@ pub fn take_node(tree: &mut FiberTree<Fiber>, at: FiberId) -> Result<(), AllocEr
     ensures current { tree.new.current ≡ tree.old.current }
 {
     tree.place_facts();
-    let mark = match old_mark(tree, tree.alternate(at)) {
-        Some(mark) => mark.copy()?,
-        None => unreachable!(),
-    };
-    let below = old_subtree(tree, tree.alternate(at));
+    let taken = taken_fiber(tree, at)?;
     tree.take_over(at);
     tree.place_facts();
-    set_stage(tree, at, Stage::Begun(mark))?;
-    tree.place_facts();
-    tree.mark_made(at, &StageChange::Complete(below));
+    tree.set_value(at, taken);
     Ok(())
 }

@@ -1,18 +1,33 @@
-use Rattle.std.proofs.Common.{◌∙◌, subst, map, OnOk}
+use Rattle.std.proofs.Common.{sym, subst, OnOk}
 use Rattle.rx_links.specs.Readers.{list_from}
 use Rattle.rx_fiber.specs.Fibers.{as_cloned}
-use Rattle.rx_fiber.specs.OldLists.{old_fibers}
-use Rattle.rx_children.specs.Children.{element_or_null, HasMadeFrom}
-use Rattle.rx_children.proofs.Cloning.{list_elements, room_for_clones}
+use Rattle.rx_fiber.specs.OldLists.{old_elements, old_fibers}
+use Rattle.rx_fiber.proofs.OldReads.{some_held}
+use Rattle.rx_children.specs.Children.{HasMadeFrom}
+use Rattle.rx_children.specs.Nodes.{IsBareBeside}
 use Rattle.rx_children.proofs.clones.clone_children.Goals as goal
 
-pub clone_all-requires-clause-room : goal.clone_all-requires-clause-room
-clone_all-requires-clause-room c =
-    room_for_clones c.args.tree.now c.args.at c.args.first_old c.deref.result.now c.requires.beside c.requires.held c.facts.ensures.linked (c.deref.ensures.value ∙ c.in_ok-fibers.ensures)
+pub clone_from-requires-clause-held : goal.clone_from-requires-clause-held
+clone_from-requires-clause-held c = some_held c.args.tree.now.current c.args.first_old c.in-Some.id c.requires.held c.in-Some.is
 
-pub returns-clause-made : goal.returns-clause-made
-returns-clause-made c =
-    let here = c.deref.ensures.value ∙ c.in_ok-fibers.ensures in
-    subst (λ es. OnOk c.clone_all.result (HasMadeFrom (as_cloned c.args.visible) 0 c.args.tree.now c.clone_all.new.tree c.args.at es (old_fibers (list_from c.args.tree.now.current c.args.first_old))))
-    (list_elements c.args.tree.now.current c.facts.ensures.linked c.args.first_old c.requires.held)
-    (subst (λ os. OnOk c.clone_all.result (HasMadeFrom (as_cloned c.args.visible) 0 c.args.tree.now c.clone_all.new.tree c.args.at (map (element_or_null c.args.tree.now.current) os) os)) here c.clone_all.ensures.made)
+pub clone_from-requires-clause-beside : goal.clone_from-requires-clause-beside
+clone_from-requires-clause-beside c = subst (λ o. IsBareBeside c.args.tree.now c.args.at o) c.in-Some.is c.requires.beside
+
+pub clone_list-requires-clause-beside : goal.clone_list-requires-clause-beside
+clone_list-requires-clause-beside c = subst (λ o. IsBareBeside c.args.tree.now c.args.at o) c.in-None.is c.requires.beside
+
+pub returns-in-Some-clause-made : goal.returns-in-Some-clause-made
+returns-in-Some-clause-made c =
+    subst
+    (λ o.
+    OnOk c.clone_from.result
+    (HasMadeFrom (as_cloned c.args.visible) 0 c.args.tree.now c.clone_from.new.tree c.args.at (old_elements (list_from c.args.tree.now.current o)) (old_fibers (list_from c.args.tree.now.current o))))
+    (sym c.in-Some.is) c.clone_from.ensures.made
+
+pub returns-in-None-clause-made : goal.returns-in-None-clause-made
+returns-in-None-clause-made c =
+    subst
+    (λ o.
+    OnOk c.clone_list.result
+    (HasMadeFrom (as_cloned c.args.visible) 0 c.args.tree.now c.clone_list.new.tree c.args.at (old_elements (list_from c.args.tree.now.current o)) (old_fibers (list_from c.args.tree.now.current o))))
+    (sym c.in-None.is) c.clone_list.ensures.made
