@@ -34,6 +34,10 @@ pub(crate) fn is_as_before(tree: &FiberTree<Fiber>, at: FiberId, checked: &Check
     ensures { (v : fibers.Fiber) → Some v ≡ made_value_of tree.now.draft at → TellsAgain (is_memo checked.now v.element) tree.now.current (old_of tree.now.draft at) v result }
 {
     tree.place_facts();
-    let memo = is_memo(checked, tree.value(at).element());
+    let fiber = tree.value(at);
+    if fiber.is_cloned() {
+        return true;
+    }
+    let memo = is_memo(checked, fiber.element());
     is_again(tree, at, memo)
 }
