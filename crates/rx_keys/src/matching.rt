@@ -1,5 +1,5 @@
 // Which children are those of before, which moved, and which are gone.
-ghost use Rattle.std.specs.Prelude.{◌≡◌, ℕ, ◌+◌, ◌<◌, ◌≤◌, ◌^◌, ◌&&◌, true, false, not, IfOk, length, max, nat_lt, slice_set, slice_index_or};
+ghost use Rattle.std.specs.Prelude.{◌≡◌, ℕ, ◌+◌, ◌<◌, ◌≤◌, ◌^◌, ◌&&◌, true, false, not, IfOk, length, max, nat_eq, nat_lt, slice_set, slice_index_or};
 ghost use Rattle.std.specs.Option.{option_map_or};
 ghost use Rattle.rx_elem.specs.Elements.{is_present};
 ghost use Rattle.rx_elem.specs.Identity.{is_reused, moves, old_places, removed_places};
@@ -10,6 +10,9 @@ use crate::dense::{places_by, table_by_key};
 use crate::known::Known;
 use rx_elem::Element;
 use std::alloc::{AllocError, Global};
+
+// So many children are sooner compared one by one than marked.
+const FEW: usize = 4;
 
 /// What becomes of a list of children.
 #[derive(Drop, Debug)]
@@ -83,6 +86,43 @@ fn is_gone(child: &Element, reused: bool) -> bool
     !reused && child.is_present()
 }
 
+// Whether the old child at a place is one of the new ones.
+fn is_reused(places: &[Option<u32>], place: usize) -> bool
+    ensures { result ≡ is_reused places.now place }
+{
+    match places.split_first() {
+        None => false,
+        Some((first, others)) => is_at(*first, place) || is_reused(others, place),
+    }
+}
+
+fn is_at(found: Option<u32>, place: usize) -> bool
+    ensures { result ≡ option_map_or (nat_eq place) found false }
+{
+    match found {
+        None => false,
+        Some(found) => place == found as usize,
+    }
+}
+
+// The places of the old children that are gone, for lists so short that no marks are made of them.
+fn removed_of_few(
+    alloc: Global,
+    old: &[Element],
+    places: &[Option<u32>],
+) -> Result<Vec<u32>, AllocError>
+    requires { length old.now < 2 ^ 32 }
+    ensures { IfOk result (λ removed. removed.items ≡ gone_places old.now places.now) }
+{
+    let mut removed = Vec::new(alloc);
+    for place in 0..old.len() {
+        if is_gone(&old[place], is_reused(places, place)) {
+            removed.push(place as u32)?;
+        }
+    }
+    Ok(removed)
+}
+
 // The places of the old children that are gone.
 fn removed_of(
     alloc: Global,
@@ -92,6 +132,9 @@ fn removed_of(
     requires { length old.now < 2 ^ 32 }
     ensures { IfOk result (λ removed. removed.items ≡ gone_places old.now places.now) }
 {
+    if old.len() <= FEW && places.len() <= FEW {
+        return removed_of_few(alloc, old, places);
+    }
     let reused = reused_of(alloc, old.len(), places)?;
     let mut removed = Vec::new(alloc);
     for place in 0..old.len() {

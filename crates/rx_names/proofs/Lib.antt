@@ -1,3 +1,4 @@
+pub mod Bytes
 pub mod Distinct
 pub mod Places
 pub mod Texts

@@ -5,17 +5,20 @@ ghost use Rattle.std.specs.List.{position_from};
 
 use rx_base::Name;
 
-/// Whether two short texts have the same bytes. A name or a text of a program that is accepted is short, so this is never deep. Each use of
-/// a variable asks it, and it takes a fifth of the time that the comparison of texts takes, which is made for long ones.
+/// Whether two short texts have the same bytes. Each use of a variable asks it, and it takes a fifth of the time that the
+/// comparison of texts takes, which is made for long ones.
 pub fn same_bytes(one: &[u8], other: &[u8]) -> bool
     ensures { result ≡ pointwise nat_eq one.now other.now }
 {
-    match (one.split_first(), other.split_first()) {
-        (None, None) => true,
-        (Some((first, rest)), Some((second, others))) => *first == *second
-            && same_bytes(rest, others),
-        _ => false,
+    if one.len() != other.len() {
+        return false;
     }
+    for place in 0..one.len() {
+        if one[place] != other[place] {
+            return false;
+        }
+    }
+    true
 }
 
 /// The place of the first of these names that has this text, if the places of the names are counted from this one.
