@@ -8,9 +8,9 @@ abbrev mutual
   expr_size (number n) = 1
   expr_size (variable x) = 1
   expr_size (grouped e) = 1 + expr_size e
-  expr_size (prefixed o e) = 1 + expr_size e
-  expr_size (chain e ls) = 2 + expr_size e + links_size ls
-  expr_size (chosen c a b) = 1 + expr_size c + expr_size a + expr_size b
+  expr_size (prefixed o e) = 2 + expr_size e
+  expr_size (chain e ls) = 3 + expr_size e + links_size ls
+  expr_size (chosen c a b) = 2 + expr_size c + expr_size a + expr_size b
   expr_size (called f es) = 3 + exprs_size es
 
   pub links_size : Links → ℕ

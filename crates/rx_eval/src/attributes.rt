@@ -10,6 +10,7 @@ use crate::evaluator::Evaluator;
 use rx_ast::{Attribute, AttributeKind, Element, Expr, Parameter, ParameterKind};
 use rx_base::{Int, Ints, Name, Str};
 use rx_elem::{Attr, AttrValue};
+use rx_names::same_bytes;
 use std::alloc::{AllocError, Global};
 
 /// The attribute that a host gets; a key is none.
@@ -60,7 +61,7 @@ fn prop_named(evaluator: &Evaluator, env: &Env, attributes: &[Attribute], name: 
 {
     for attribute in attributes {
         if let AttributeKind::Computed { name: given, value } = &attribute.kind {
-            if given.text() == name.text() {
+            if same_bytes(given.text().as_bytes(), name.text().as_bytes()) {
                 return evaluator.value(env, value);
             }
         }
@@ -78,7 +79,7 @@ fn props_for(
 ) -> Result<Ints, AllocError>
     ensures { IfOk result (λ xs. xs ≡ map (prop_named evaluator.now env.now attributes.now) (filter_map integer_in parameters.now)) }
 {
-    let mut props = Vec::new(alloc);
+    let mut props = Vec::with_capacity(alloc, parameters.len())?;
     for parameter in parameters {
         if let ParameterKind::Integer(name) = &parameter.kind {
             props.push(prop_named(evaluator, env, attributes, name))?;

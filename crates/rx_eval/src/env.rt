@@ -1,9 +1,9 @@
 // The values of names.
-ghost use Rattle.std.specs.Prelude.{◌≡◌, [], ◌∷◌, nat_eq};
-ghost use Rattle.std.specs.Cmp.Lexicographic.{pointwise};
+ghost use Rattle.std.specs.Prelude.{◌≡◌, [], ◌∷◌};
 ghost use Rattle.rx_meaning.specs.Expressions.{value_of};
 
 use rx_base::{Int, Name};
+use rx_names::same_bytes;
 use std::marker::Model;
 
 /// The values of names, the newest first. It stands on the stack of calls: each binding borrows those before it, so nothing
@@ -19,20 +19,7 @@ pub(crate) struct Env<'a> {
 #[derive(Drop)]
 enum Bound<'a> {
     Nothing,
-    Value(&'a Name, Int, &'a Env<'a>),
-}
-
-/// Whether two short texts have the same bytes. A name or a text of a program that is accepted is short, so this is never deep. Each use of
-/// a variable asks it, and it takes a fifth of the time that the comparison of texts takes, which is made for long ones.
-pub fn same_bytes(one: &[u8], other: &[u8]) -> bool
-    ensures { result ≡ pointwise nat_eq one.now other.now }
-{
-    match (one.split_first(), other.split_first()) {
-        (None, None) => true,
-        (Some((first, rest)), Some((second, others))) => *first == *second
-            && same_bytes(rest, others),
-        _ => false,
-    }
+    Value(&'a [u8], Int, &'a Env<'a>),
 }
 
 impl<'a> Model for Env<'a> {
@@ -67,7 +54,7 @@ impl<'a> Env<'a> {
         ensures { result ≡ (name.now, value) ∷ self.now }
     {
         Env {
-            newest: Bound::Value(name, value, self),
+            newest: Bound::Value(name.text().as_bytes(), value, self),
         }
     }
 
@@ -75,13 +62,20 @@ impl<'a> Env<'a> {
     pub(crate) fn value(&self, name: &Name) -> Int
         ensures { result ≡ value_of self.now name.now }
     {
+        self.value_at(name.text().as_bytes())
+    }
+
+    // The value of the name with these bytes.
+    fn value_at(&self, name: &[u8]) -> Int
+        ensures { result ≡ value_of self.now name.now }
+    {
         match &self.newest {
             Bound::Nothing => Int::of(0),
             Bound::Value(bound, value, before) => {
-                if same_bytes(bound.text().as_bytes(), name.text().as_bytes()) {
+                if same_bytes(bound, name) {
                     *value
                 } else {
-                    before.value(name)
+                    before.value_at(name)
                 }
             }
         }

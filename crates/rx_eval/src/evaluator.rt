@@ -6,7 +6,7 @@ ghost use Rattle.rx_rules.specs.Versions.{width};
 ghost use Rattle.rx_meaning.specs.Expressions.{calls_of, value_in, answer, answers_of, after_lines};
 
 use crate::env::Env;
-use crate::values::{after_lines, value};
+use crate::values::{after_lines, value_at_once};
 use rx_ast::{Component, Expr, Function};
 use rx_base::{Int, Name};
 use rx_check::Checked;
@@ -56,7 +56,7 @@ impl<'a> Evaluator<'a> {
     pub(crate) fn value(&self, env: &Env, expr: &Expr) -> Int
         ensures { result ≡ value_in self.now env.now expr.now }
     {
-        value(self.checked, self.nesting, env, expr)
+        value_at_once(self.checked, self.nesting, env, expr)
     }
 
     /// The number of a component; 0 if there is none, for which no program that is accepted asks.

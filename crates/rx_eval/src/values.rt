@@ -33,11 +33,11 @@ pub(crate) fn value(checked: &Checked, nesting: usize, env: &Env, expr: &Expr) -
         ExprKind::Variable(name) => env.value(name),
         ExprKind::Group(inner) => value(checked, nesting, env, inner),
         ExprKind::Prefixed { operator, operand } => {
-            let operand = value(checked, nesting, env, operand);
+            let operand = value_at_once(checked, nesting, env, operand);
             before_operand(checked.width(), *operator, operand)
         }
         ExprKind::Chain { first, links } => {
-            let first = value(checked, nesting, env, first);
+            let first = value_at_once(checked, nesting, env, first);
             chained(checked, nesting, env, first, links)
         }
         ExprKind::Choice {
@@ -45,13 +45,26 @@ pub(crate) fn value(checked: &Checked, nesting: usize, env: &Env, expr: &Expr) -
             first,
             second,
         } => {
-            if is_zero(value(checked, nesting, env, test)) {
+            if is_zero(value_at_once(checked, nesting, env, test)) {
                 value(checked, nesting, env, second)
             } else {
                 value(checked, nesting, env, first)
             }
         }
         ExprKind::Call(made) => call(checked, nesting, env, &made.function, &made.arguments),
+    }
+}
+
+/// What an expression is worth, as `value` tells it. Most operands, arguments and tests are numbers or variables: these are
+/// told at once, without a frame of `value`.
+#[cycle(value)]
+pub(crate) fn value_at_once(checked: &Checked, nesting: usize, env: &Env, expr: &Expr) -> Int
+    ensures { result ≡ worth (width checked.now) (nested_calls nesting checked.now) env.now expr.now }
+{
+    match &expr.kind {
+        ExprKind::Number(number) => Int::literal(checked.width(), *number),
+        ExprKind::Variable(name) => env.value(name),
+        _ => value(checked, nesting, env, expr),
     }
 }
 
@@ -62,7 +75,7 @@ fn chained(checked: &Checked, nesting: usize, env: &Env, first: Int, links: &[Li
 {
     let mut so_far = first;
     for link in links {
-        let operand = value(checked, nesting, env, &link.operand);
+        let operand = value_at_once(checked, nesting, env, &link.operand);
         so_far = between_operands(checked.width(), link.operator, so_far, operand);
     }
     so_far
@@ -116,7 +129,7 @@ fn with_arguments(
             function.answer(),
         ),
         Some((argument, before)) => {
-            let argument = value(checked, nesting, env, argument);
+            let argument = value_at_once(checked, nesting, env, argument);
             let bound = (&*bound).with(&function.parameters()[before.len()], argument);
             with_arguments(checked, nesting, env, function, before, &bound)
         }

@@ -9,8 +9,8 @@ use Rattle.rx_eval.proofs.Naming.{named-contained}
 use Rattle.rx_eval.proofs.Calls.{operand_size, exprs_size-take, exprs_size-push, size-contained, room-more, call-answer, bound_more}
 use Rattle.rx_eval.proofs.values.+value.Goals as goal
 
-pub chained-value-operand-requires : goal.chained-value-operand-requires
-chained-value-operand-requires t c =
+pub chained-value_at_once-operand-requires : goal.chained-value_at_once-operand-requires
+chained-value_at_once-operand-requires t c =
     let inside : expr_size (get_or c.args.links.now c.loop-link.link-index c.link-item.result).operand ≤ links_size (links_of c.args.links.now) =
     operand_size c.args.links.now c.loop-link.link-index c.link-item.result c.loop-link-test.true in
     let below : expr_size c.link-item.result.operand ≤ links_size (links_of c.args.links.now) = rw (sym c.link-item.is) at inside
@@ -45,8 +45,8 @@ with_arguments-after_lines-requires t c =
     let small : function_size f ≤ widest fs = size-contained fs f c.requires.declared in
     (rw (c.lines.ensures, c.answer.ensures) (omega (arith, c.decreases, small, room-more c.args.nesting fs c.requires.nests)), tt)
 
-pub with_arguments-value-argument-requires : goal.with_arguments-value-argument-requires
-with_arguments-value-argument-requires t c =
+pub with_arguments-value_at_once-argument-requires : goal.with_arguments-value_at_once-argument-requires
+with_arguments-value_at_once-argument-requires t c =
     let size : exprs_size (exprs_of c.args.arguments.now) ≡ exprs_size (exprs_of c.in-Some.before.now) + 1 + expr_size c.in-Some.argument.now =
     rw c.in-Some.ensures.cases.0 (exprs_size-push c.in-Some.before.now c.in-Some.argument.now) in
     (omega (arith, c.decreases, size), tt)
@@ -65,7 +65,7 @@ with_arguments-returns-in-Some t c =
     let x = c.index-parameters-before.result in
     let more : zip (take (length c.args.arguments.now) f.parameters) (values w calls c.args.env.now (exprs_of c.args.arguments.now)) ++ c.args.bound.now
     ≡ zip (take (length c.in-Some.before.now) f.parameters) (values w calls c.args.env.now (exprs_of c.in-Some.before.now)) ++ c.with-bound.result =
-    rw (c.with-bound.ensures, c.value-argument.ensures)
+    rw (c.with-bound.ensures, c.value_at_once-argument.ensures)
     (bound_more w calls c.args.env.now f.parameters c.args.arguments.now c.in-Some.before.now c.in-Some.argument.now x c.args.bound.now c.in-Some.ensures.cases.0 c.requires.within
     (rw (← c.parameters.ensures) c.index-parameters-before.is)) in
     rw more c.with_arguments.ensures

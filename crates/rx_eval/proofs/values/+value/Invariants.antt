@@ -9,8 +9,11 @@ use Rattle.rx_eval.proofs.values.+value.Given as goal
 abbrev pub decreases-value : goal.decreases-value
 decreases-value l = room l.nesting (functions l.checked.now) + expr_size l.expr.now
 
+abbrev pub decreases-value_at_once : goal.decreases-value_at_once
+decreases-value_at_once l = room l.nesting (functions l.checked.now) + expr_size l.expr.now + 1
+
 abbrev pub decreases-chained : goal.decreases-chained
-decreases-chained l = room l.nesting (functions l.checked.now) + links_size (links_of l.links.now) + 1
+decreases-chained l = room l.nesting (functions l.checked.now) + links_size (links_of l.links.now) + 2
 
 abbrev pub decreases-call : goal.decreases-call
 decreases-call l = room l.nesting (functions l.checked.now) + exprs_size (exprs_of l.arguments.now) + 2
