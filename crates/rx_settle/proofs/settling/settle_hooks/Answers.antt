@@ -1,11 +1,11 @@
-use Rattle.std.proofs.Common.{ℕ, Some, false, nat_eq, ◌≡◌, ◌∙◌, ap}
+use Rattle.std.proofs.Common.{ℕ, Some, false, ◌≡◌, ◌∙◌, ap}
 use Rattle.std.proofs.lemmas.Result.{on_ok_weaker}
 use Rattle.rx_set.specs.Sets.{holds}
 use Rattle.std.specs.Option.{option_copied}
 use Rattle.rx_elem.specs.Spots.{mounted}
 use Rattle.rx_hook_store.specs.Store.{kept_hooks}
 use Rattle.rx_settle.specs.Found.{seen}
-use Rattle.rx_settle.proofs.Found.{all_in_list, has_working, kept_of, set_is_empty}
+use Rattle.rx_settle.proofs.Found.{all_in_list, has_working, kept_of}
 use Rattle.rx_settle.proofs.Staying.{taken_of_whole}
 use Rattle.rx_settle.proofs.Whole.{pruned_apart, pruned_kept, pruned_stay, settled_gone, settled_keeps}
 use Rattle.rx_settle.proofs.settling.settle_hooks.Goals as goal
@@ -18,7 +18,7 @@ settle_working-requires-clause-kept c =
     let left = holds c.take_known.new.numbers in
     let ws = seen c.in_ok-working.working.items in
     let vs = seen c.deref-then-is_empty.result.now in
-    let empty : (n : ℕ) → left n ≡ false = set_is_empty c.take_known.new.numbers (c.is_empty.ensures.0 c.if-is_empty.true) in
+    let empty : (n : ℕ) → left n ≡ false = λ n. ap (λ l. holds l n) (c.is_empty.ensures.0 c.if-is_empty.true) in
     let taken = taken_of_whole asked left ms c.deref.result.now ws vs (c.deref.ensures.value ∙ c.in_ok-instances.ensures) (ap seen c.deref-then-is_empty.ensures.value) c.in_ok-working.ensures empty in
     kept_of c.args.first (kept_hooks c.args.store.now) ms vs taken.within
     (pruned_kept c.args.checked.now (kept_hooks c.args.store.now) (option_copied c.args.old) c.args.new.now c.args.first c.args.lanes c.args.cut can.state can.progress can.rendered can.is
@@ -33,7 +33,7 @@ returns-then-is_empty-clause-settled c =
     let left = holds c.take_known.new.numbers in
     let ws = seen c.in_ok-working.working.items in
     let vs = seen c.deref-then-is_empty.result.now in
-    let empty : (n : ℕ) → left n ≡ false = set_is_empty c.take_known.new.numbers (c.is_empty.ensures.0 c.if-is_empty.true) in
+    let empty : (n : ℕ) → left n ≡ false = λ n. ap (λ l. holds l n) (c.is_empty.ensures.0 c.if-is_empty.true) in
     let taken = taken_of_whole asked left ms c.deref.result.now ws vs (c.deref.ensures.value ∙ c.in_ok-instances.ensures) (ap seen c.deref-then-is_empty.ensures.value) c.in_ok-working.ensures empty in
     on_ok_weaker c.settle_working.result
     (λ over s g x is.
@@ -58,7 +58,7 @@ returns-then-is_empty-clause-gone c =
     let left = holds c.take_known.new.numbers in
     let ws = seen c.in_ok-working.working.items in
     let vs = seen c.deref-then-is_empty.result.now in
-    let empty : (n : ℕ) → left n ≡ false = set_is_empty c.take_known.new.numbers (c.is_empty.ensures.0 c.if-is_empty.true) in
+    let empty : (n : ℕ) → left n ≡ false = λ n. ap (λ l. holds l n) (c.is_empty.ensures.0 c.if-is_empty.true) in
     let taken = taken_of_whole asked left ms c.deref.result.now ws vs (c.deref.ensures.value ∙ c.in_ok-instances.ensures) (ap seen c.deref-then-is_empty.ensures.value) c.in_ok-working.ensures empty in
     on_ok_weaker c.settle_working.result
     (λ over.
