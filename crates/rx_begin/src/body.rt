@@ -138,6 +138,17 @@ fn body_at<L: Ledger>(
     )
 }
 
+// What an instance keeps of a render, shared with its next one. Most have nothing of a kind, before and after: then what was kept
+// before is handed on.
+fn shared<T: Drop>(alloc: Global, kept: Vec<T>, before: Rc<Vec<T>>) -> Result<Rc<Vec<T>>, AllocError>
+    ensures { IfOk result (λ r. r.value.items ≡ kept.items) }
+{
+    if kept.is_empty() && before.is_empty() {
+        return Ok(before);
+    }
+    Ok(Rc::new(alloc, kept)?)
+}
+
 // An instance keeps its number and its initial values (react.dev, State as a Snapshot).
 fn instance_after(
     alloc: Global,
@@ -150,25 +161,22 @@ fn instance_after(
 ) -> Result<Instance, AllocError>
     ensures { IfOk result (λ i. instance_seen i ≡ instance_after component (option_map instance_seen old) initials reads.items versions.items effects.items) }
 {
-    let reads = Rc::new(alloc, reads)?;
-    let versions = Rc::new(alloc, versions)?;
-    let effects = Rc::new(alloc, effects)?;
     match old {
         Some(old) => Ok(Instance {
             number: old.number,
             component,
             initials: old.initials,
-            reads,
-            versions,
-            effects,
+            reads: shared(alloc, reads, old.reads)?,
+            versions: shared(alloc, versions, old.versions)?,
+            effects: shared(alloc, effects, old.effects)?,
         }),
         None => Ok(Instance {
             number: None,
             component,
             initials: Rc::new(alloc, initials)?,
-            reads,
-            versions,
-            effects,
+            reads: Rc::new(alloc, reads)?,
+            versions: Rc::new(alloc, versions)?,
+            effects: Rc::new(alloc, effects)?,
         }),
     }
 }
