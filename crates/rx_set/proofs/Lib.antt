@@ -1,2 +1,3 @@
 pub mod Holding
 mod Noting
+mod Few

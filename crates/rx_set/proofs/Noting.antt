@@ -18,7 +18,7 @@ old_or_last (x ∷ xs) n (suc i) k at = go (old_or_last xs n i k at)
     go (inl h) = inl h
     go (inr h) = inr (ap suc h.0, h.1)
 
-one_of : {A : Type 0} (x y : A) → Some x ≡ Some y → x ≡ y
+pub one_of : {A : Type 0} (x y : A) → Some x ≡ Some y → x ≡ y
 one_of x y is = cc
 
 not_none : {A : Type 0} (o : Option A) (x : A) → o ≡ None → o ≡ Some x → ⊥

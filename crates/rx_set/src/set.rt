@@ -4,12 +4,12 @@ ghost use Rattle.std.specs.List.{list_all};
 ghost use Rattle.std.specs.List.Sorted.{IsPermutation};
 ghost use Rattle.rx_set.specs.Sets.{IsWithout, added, holds};
 
-use crate::places::Places;
+use crate::places::{Places, note_moved, note_next, number_at, place_in};
 use std::alloc::{AllocError, Global};
 use std::marker::Model;
 
-/// A set of numbers, as the list of its members, with the place of each: whether a small number is in it takes two reads and no
-/// hash. Contracts see the members, in the order of the list.
+/// A set of numbers, as the list of its members; if they are more than a few, with the place of each: whether a small number is in
+/// it takes two reads and no hash. Contracts see the members, in the order of the list.
 #[derive(Drop)]
 pub struct NumberSet {
     members: Vec<u64>,
@@ -18,21 +18,14 @@ pub struct NumberSet {
 
 impl Model for NumberSet {
     ghost use Rattle.std.specs.Prelude.{ℕ, List};
-    ghost use Rattle.rx_set.specs.Places.{AreNoted, place_of};
+    ghost use Rattle.rx_set.specs.Places.{AreNoted, place_in};
 
     ghost Value = { List ℕ };
 
     ghost view = { λ s. s.members.items };
 
-    // The place of each member is noted. What is noted of other numbers is of no account: no member with that number stands there.
-    ghost invariant = { λ s. AreNoted (place_of s.places) s.members.items };
-}
-
-// The number at a place of a list.
-fn number_at(members: &[u64], place: u32) -> Option<u64>
-    ensures { result ≡ slice_get members.now place }
-{
-    members.get(place as usize).copied()
+    // Each member is found at its place. What is noted of other numbers is of no account: no member with that number stands there.
+    ghost invariant = { λ s. AreNoted (place_in s.members.items s.places) s.members.items };
 }
 
 // Takes the number at a place out of a list. The last one takes its place.
@@ -59,7 +52,7 @@ impl NumberSet {
         ensures some { IfSome result (λ place. slice_get self.now place ≡ Some number) }
         ensures none { result ≡ None → holds self.now number ≡ false }
     {
-        let place = self.places.get(number)?;
+        let place = place_in(&self.members, &self.places, number)?;
         if number_at(&self.members, place) == Some(number) {
             return Some(place);
         }
@@ -117,7 +110,7 @@ impl NumberSet {
         if place > u32::MAX as usize {
             return Err(AllocError);
         }
-        self.places.put(number, place as u32)?;
+        note_next(&mut self.places, &self.members, number)?;
         self.members.push(number)?;
         Ok(())
     }
@@ -132,9 +125,7 @@ impl NumberSet {
             return false;
         };
         take_out(&mut self.members, place, number);
-        if let Some(moved) = number_at(&self.members, place) {
-            self.places.move_to(moved, place);
-        }
+        note_moved(&mut self.places, &self.members, place);
         true
     }
 }
