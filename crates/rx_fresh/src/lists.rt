@@ -137,7 +137,7 @@ pub(crate) fn copy_all(
 {
     let mut copies = Vec::with_capacity(alloc, nodes.len())?;
     for place in nodes {
-        copies.push(copy_place(place)?)?;
+        copies.push_reserved(copy_place(place)?);
     }
     Ok(copies)
 }

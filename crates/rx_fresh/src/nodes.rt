@@ -80,8 +80,7 @@ fn has_text(element: &Element, text: &Str) -> bool
 pub(crate) fn is_text_node(node: &Node, text: &Str) -> bool
     ensures { result ≡ true → node.now ≡ text_node text.now (old_host (Some node.now)) }
 {
-    let is_bare = node.children().is_empty() && node.fallback().is_empty();
-    is_bare && node.mark().is_host() && has_text(node.element(), text)
+    node.is_text() && has_text(node.element(), text)
 }
 
 // A text. Where the old node is the same, it stays.
