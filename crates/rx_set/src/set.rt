@@ -1,5 +1,5 @@
 // A set of numbers.
-ghost use Rattle.std.specs.Prelude.{◌≡◌, ◌||◌, ◌∷◌, ◌↔◌, ℕ, [], true, false, cond, nat_eq, slice_get, length, None, Some, IfOk, IfSome, IsTrue, OnErr, OnOk};
+ghost use Rattle.std.specs.Prelude.{◌≡◌, ◌||◌, ◌∷◌, ◌↔◌, ℕ, [], true, false, cond, nat_eq, slice_get, None, Some, IfSome, IsTrue, OnErr, OnOk};
 ghost use Rattle.std.specs.List.{list_all};
 ghost use Rattle.std.specs.List.Sorted.{IsPermutation};
 ghost use Rattle.rx_set.specs.Sets.{IsWithout, added, holds};
@@ -45,27 +45,6 @@ impl NumberSet {
             members: Vec::new(alloc),
             places: Places::new(alloc),
         }
-    }
-
-    /// No number, with room for so many members.
-    ///
-    /// # Errors
-    ///
-    /// Only if out of memory.
-    pub fn with_capacity(alloc: Global, count: usize) -> Result<NumberSet, AllocError>
-        ensures { IfOk result (λ s. s ≡ []) }
-    {
-        Ok(NumberSet {
-            members: Vec::with_capacity(alloc, count)?,
-            places: Places::new(alloc),
-        })
-    }
-
-    /// How many members there are.
-    pub fn len(&self) -> usize
-        ensures { result ≡ length self.now }
-    {
-        self.members.len()
     }
 
     // Where a number stands, if it is in the set.

@@ -142,7 +142,7 @@ fn walk_along(
     ensures { IfOk result (λ ways. (n : ℕ) → holds ways n ≡ puts_among (hinted before.now sent.now) (holds stirred.now) n tree.now.current) }
 {
     tree.facts();
-    let mut ways = NumberSet::with_capacity(alloc, before.numbers.len())?;
+    let mut ways = NumberSet::new(alloc);
     walk(tree, tree.current(), stirred, before, sent, &mut ways)?;
     Ok(ways)
 }
