@@ -1,7 +1,7 @@
 -- Comparisons that are alike: they log the same, place the same hosts, catch the same, and hide anew what waits for the same.
 use Rattle.std.specs.Prelude.{◌≡◌, Bool, true, false, List, ◌++◌, Option, Some, None, filter, filter_map, map, refl}
 use Rattle.std.specs.List.{cons_option}
-use Rattle.std.proofs.Common.{ap, ◌∙◌}
+use Rattle.std.proofs.Common.{ap, sym, ◌∙◌}
 use Rattle.std.proofs.lemmas.List.{map-append, append-nil}
 use Rattle.std.proofs.lemmas.List.Elements.{filter-append, filter_map-append}
 use Rattle.rx_base.specs.Awaits.{Awaits}
@@ -41,6 +41,25 @@ alike_itself c = record { destroys = λ phase. refl; creates = λ phase. refl; p
 
 pub all_alike_themselves : (cs : AllCompared) → AreAlike cs cs
 all_alike_themselves cs = record { destroys = λ phase. refl; creates = λ phase. refl; places = refl; catches = refl; hides = refl }
+
+-- lists are alike the other way round, and if both are alike to a third
+pub alike_back : {cs ds : AllCompared} → AreAlike cs ds → AreAlike ds cs
+alike_back h = record {
+  destroys = λ phase. sym (h.destroys phase);
+  creates = λ phase. sym (h.creates phase);
+  places = sym h.places;
+  catches = sym h.catches;
+  hides = sym h.hides;
+}
+
+pub alike_both : {bs cs ds : AllCompared} → AreAlike bs cs → AreAlike cs ds → AreAlike bs ds
+alike_both h k = record {
+  destroys = λ phase. h.destroys phase ∙ k.destroys phase;
+  creates = λ phase. h.creates phase ∙ k.creates phase;
+  places = h.places ∙ k.places;
+  catches = h.catches ∙ k.catches;
+  hides = h.hides ∙ k.hides;
+}
 
 pub hidden_awaits-append : (cs ds : List Change) → hidden_awaits (cs ++ ds) ≡ hidden_awaits cs ++ hidden_awaits ds
 hidden_awaits-append cs ds =

@@ -1,15 +1,15 @@
 -- An old tree and the new one leave out an instance equally often.
-use Rattle.std.proofs.Common.{◌≡◌, ℕ, zero, suc, ◌+◌, ◌≤◌, Option, Some, None, List, [], ◌∷◌, length, map, option_and_then, slice_get, refl, sym, ap, ◌∙◌, subst, arith}
+use Rattle.std.proofs.Common.{◌≡◌, ℕ, suc, ◌+◌, ◌≤◌, Option, Some, None, List, [], ◌∷◌, cond, length, map, option_and_then, refl, sym, ap, ◌∙◌, arith}
 use Rattle.std.specs.List.{zip}
 use Rattle.std.specs.Option.{option_flatten}
 use Rattle.std.proofs.lemmas.Option.{slice_get_past}
 use Rattle.rx_elem.specs.Elements.{Element}
 use Rattle.rx_elem.specs.Identity.{moves_after, old_places}
-use Rattle.rx_elem.specs.Trees.{Forest, Mark, Node, child, elements_in, node, none, places, vacant}
+use Rattle.rx_elem.specs.Trees.{Forest, Mark, Node, child, elements_in, instance_in, none, of_boundary, of_catcher, of_host, of_instance, plain, places, vacant}
 use Rattle.rx_elem.specs.Compare.{Past, node_at, pasts}
-use Rattle.rx_meaning.specs.Settled.{times_numbered, times_numbered_if, times_numbered_in}
+use Rattle.rx_meaning.specs.Settled.{is_numbered_so, number_of, times_numbered, times_numbered_if, times_numbered_in}
 use Rattle.rx_compare.specs.InPlace.{stayed}
-use Rattle.rx_pruned.specs.Pruned.{ArePruned, KeepsGone, Pruned, PrunedIn, cut, first, gap, in_place, inside, later, left, no_more, pair, same, whole}
+use Rattle.rx_pruned.specs.Pruned.{ArePruned, KeepsGone, Pruned, PrunedIn, PrunedInPlace, StaysBare, cut, each, first, gap, in_place, inside, later, left, no_more, pair, same, through, whole}
 use Rattle.host_laws.proofs.IdentityLaws.{places_distinct}
 use Rattle.prune_laws.specs.LeftOut.{LeaveOutAlike}
 use Rattle.prune_laws.proofs.Sums.{picked, picked_differ, total}
@@ -66,6 +66,23 @@ stayed_times k none = refl
 stayed_times k (vacant ns) = omega (arith, stayed_times k ns)
 stayed_times k (child n ns) = ap (λ t. times_numbered k n + t) (stayed_times k ns)
 
+-- ---- an instance that stays
+
+-- how often a mark has this number
+abbrev its_times : ℕ → Mark → ℕ
+its_times k m = cond (is_numbered_so k (number_of m)) 1 0
+
+number_in : (m : Mark) → number_of m ≡ option_and_then (λ i. i.number) (instance_in m)
+number_in (of_instance i) = refl
+number_in (of_host h) = refl
+number_in (of_boundary b) = refl
+number_in (of_catcher c) = refl
+number_in plain = refl
+
+-- it had the number that it has
+same_numbers : (m w : Mark) → StaysBare m w → number_of m ≡ number_of w
+same_numbers m w bare = number_in m ∙ bare.was ∙ sym bare.is ∙ sym (number_in w)
+
 -- ---- the trees
 
 -- two numbers are more than two others by the same
@@ -87,11 +104,26 @@ mutual
       let one = below.one in
       let other = below.other in
       record { times = below.times; one = omega arith; other = omega arith }
-  node_left k (in_place {os = os} {ns = ns} {ps = ps} {qs = qs} goes olds news list) =
+  node_left k (in_place {os = os} {ns = ns} {ps = ps} {qs = qs} goes lists) =
+      let below = in_place_left k lists in
+      let one = below.one in
+      let other = below.other in
+      record { times = below.times; one = omega arith; other = omega arith }
+
+  in_place_left : (k : ℕ) {d : _} {os ns ps qs : Forest} → PrunedInPlace d os ns ps qs
+      → Alike (times_numbered_in k os) (times_numbered_in k ns) (times_numbered_in k ps) (times_numbered_in k qs)
+  in_place_left k (each {os = os} {ns = ns} {ps = ps} {qs = qs} olds news list) =
       let below = list_left k list in
       let one = below.one in
       let other = below.other in
       record { times = below.times; one = omega (arith, stayed_times k os, stayed_times k ps); other = omega arith }
+  in_place_left k (through {m = m} {w = w} {os = os} {ns = ns} {ps = ps} {qs = qs} bare stands lists) =
+      let below = in_place_left k lists in
+      let one = below.one in
+      let other = below.other in
+      let same = same_numbers m w bare in
+      let itself : its_times k m ≡ its_times k w = ap (λ o. let n : ℕ = cond (is_numbered_so k o) 1 0 in n) same in
+      record { times = its_times k m + below.times; one = omega arith; other = omega (arith, itself) }
 
   list_left : (k : ℕ) {d : _} {ps : List Past} {ns : Forest} {qs : List Past} {ms : Forest} → PrunedIn d ps ns qs ms
       → Alike (in_pasts k ps) (times_numbered_in k ns) (in_pasts k qs) (times_numbered_in k ms)

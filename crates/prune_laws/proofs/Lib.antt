@@ -4,6 +4,8 @@ pub mod Present
 pub mod SelfLogs
 pub mod SelfChanges
 pub mod Alike
+pub mod Arounds
+pub mod Bare
 pub mod PrunedAlike
 pub mod OutcomeAlike
 pub mod Sums

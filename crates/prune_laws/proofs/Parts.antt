@@ -10,15 +10,16 @@ use Rattle.rx_susp.specs.declared.boundary.BoundaryState.TheVariants.{Shown, Hid
 use Rattle.rx_elem.specs.Elements.{Element}
 use Rattle.rx_elem.specs.Elements as elements
 use Rattle.rx_elem.specs.Identity.{old_places, is_reused}
-use Rattle.rx_elem.specs.Trees.{Mark, of_instance, of_host, of_boundary, of_catcher, plain, Node, node, Forest, none, vacant, child, elements_in, host_number, is_hidden}
+use Rattle.rx_elem.specs.Trees.{Mark, of_instance, of_host, of_boundary, of_catcher, plain, Node, node, Forest, none, vacant, child, elements_in, host_number, instance_in, is_hidden}
 use Rattle.rx_elem.specs.Spots.{Around, around_children, spots_in}
 use Rattle.rx_elem.specs.Compare.{Past, pasts, node_at}
 use Rattle.rx_forest.specs.Hosts.{Host, Content, content_of, host_as, host_at}
 use Rattle.rx_compare.specs.InPlace.{stayed}
-use Rattle.rx_pruned.specs.Pruned.{GoesOn, KeepsGone, was, Pruned, whole, cut, inside, in_place, PrunedIn, no_more, gap, same, pair}
+use Rattle.rx_pruned.specs.Pruned.{GoesOn, KeepsGone, was, Pruned, whole, cut, inside, in_place, PrunedInPlace, each, through, PrunedIn, no_more, gap, same, pair}
 use Rattle.rx_pruned.specs.Pruned as pruned
 use Rattle.host_laws.proofs.IdentityLaws.{places_distinct}
 use Rattle.host_laws.proofs.Listing.{hosts_at, hosts_in, in-child}
+use Rattle.prune_laws.proofs.Bare.{IsOnlyInstance, not_hidden, only_instance}
 use Rattle.prune_laws.proofs.Fewer.{as_many_pasts, is_missing}
 use Rattle.prune_laws.proofs.Merged.{IsIn, in_left, in_right, in_either, Merged, ended, keep, leave, merged-append, all_kept, all_left, SameHosts}
 use Rattle.prune_laws.proofs.Reused.{reused_by, is_reused_at, past_at, place_from, not_absent}
@@ -403,6 +404,22 @@ module _ (a b : Around) (os ns ps qs : Forest) (g : KeepsGone os ps (elements_in
           let place = place_from os (elements_in ns) one.0 one.1 one.2 one.3 in
           left_places.back place.0 h ((at_place place.0).back one.0 place.1 h one.4)
 
+-- the hosts below an instance are those of its children in its place
+hosts_through : (a : Around) (e : Element) (m : Mark) (ns : Forest) (n : ℕ) → option_and_then (λ i. i.number) (instance_in m) ≡ Some n
+    → hosts_in a (child (node e m ns none) none) ≡ hosts_in a ns
+hosts_through a e m ns n is =
+    let only : IsOnlyInstance m = only_instance m n is in
+    let same : Agree (around_children a m) a = record {
+      host = host_below a m ∙ rw only.unnumbered refl;
+      concealed = concealed_below a m (not_hidden m only) ∙ rw only.unnumbered refl;
+    } in
+    let none_own : own a e m ≡ [] = rw only.unnumbered refl in
+    in-child a (node e m ns none) none
+    ∙ append-nil (hosts_at a (node e m ns none))
+    ∙ parts_without a e m ns
+    ∙ ap (λ hs. hs ++ hosts_in (around_children a m) ns) none_own
+    ∙ hosts_agree_in (around_children a m) a ns same
+
 -- with the node above, which stays
 under_own : (a b : Around) (e f : Element) (m w : Mark) (os ns ps qs : Forest)
     → Left (hosts_in (around_children a m) ps) (hosts_in (around_children a m) os) (hosts_in (around_children b w) qs) (hosts_in (around_children b w) ns)
@@ -427,10 +444,16 @@ mutual
       under_own a b e f m w os ns ps qs
       (left_children (around_children a m) (around_children b w) os ns ps qs kept
       (left_in below (as_many_pasts os ps (elements_in ns) kept.elements) (around_children a m) (around_children b w) (agree_on a b m w goes r)))
-  left_at (in_place {e = e} {f = f} {m = m} {w = w} {os = os} {ns = ns} {ps = ps} {qs = qs} goes olds news below) a b r =
-      under_own a b e f m w os ns ps qs
-      (left_as (sym (hosts_stayed (around_children a m) ps)) (sym (hosts_stayed (around_children a m) os)) refl refl
-      (left_beside below (around_children a m) (around_children b w) (agree_on a b m w goes r)))
+  left_at (in_place {e = e} {f = f} {m = m} {w = w} {os = os} {ns = ns} {ps = ps} {qs = qs} goes lists) a b r =
+      under_own a b e f m w os ns ps qs (left_in_place lists (around_children a m) (around_children b w) (agree_on a b m w goes r))
+
+  -- what is left out of lists of which each child stands where it stood
+  left_in_place : {d : Bool} {os ns ps qs : Forest} → PrunedInPlace d os ns ps qs
+      → (a b : Around) → Agree a b → Left (hosts_in a ps) (hosts_in a os) (hosts_in b qs) (hosts_in b ns)
+  left_in_place (each {os = os} {ps = ps} olds news below) a b r =
+      left_as (sym (hosts_stayed a ps)) (sym (hosts_stayed a os)) refl refl (left_beside below a b r)
+  left_in_place (through {e = e} {f = f} {m = m} {w = w} {os = os} {ns = ns} bare stands lists) a b r =
+      left_as refl (sym (hosts_through a e m os bare.number bare.was)) refl (sym (hosts_through b f w ns bare.number bare.is)) (left_in_place lists a b r)
 
   -- what is left out of each child of a list that has as many
   left_in : {d : Bool} {befores kept_befores : List Past} {ns ms : Forest} → PrunedIn d befores ns kept_befores ms → length kept_befores ≡ length befores

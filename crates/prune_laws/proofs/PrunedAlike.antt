@@ -10,11 +10,13 @@ use Rattle.rx_elem.specs.Trees.{Mark, Node, node, Forest, none, vacant, child, e
 use Rattle.rx_elem.specs.Compare.{Above, AllCompared, Compared, Past, above_children, above_root, change_of, changes, changes_in, compare, compare_in, compare_trees, comparison, gone_nodes, no_comparisons, node_at, pasts}
 use Rattle.rx_forest.specs.HostOps.{placed_in}
 use Rattle.rx_meaning.specs.Outcome.{caught_anew}
-use Rattle.rx_compare.specs.InPlace.{stayed}
+use Rattle.rx_compare.specs.InPlace.{AreInPlace, stayed}
 use Rattle.rx_compare.proofs.InPlace.{no_nodes_gone, pasts_in_place}
-use Rattle.rx_pruned.specs.Pruned.{KeepsGone, Pruned, whole, cut, inside, in_place, PrunedIn, no_more, gap, same, pair, left, ArePruned, first, later, displaced_below, was}
+use Rattle.rx_pruned.specs.Pruned.{KeepsGone, Pruned, whole, cut, inside, in_place, PrunedInPlace, each, through, PrunedIn, no_more, gap, same, pair, left, ArePruned, first, later, displaced_below, was}
+use Rattle.rx_pruned.proofs.InPlace.{kept_in_place, wholes_in_place}
 use Rattle.prune_laws.specs.Present.{HasNoNull, AllHaveNoNull, IfHasNoNull}
-use Rattle.prune_laws.proofs.Alike.{AreAlike, IsAlike, alike_itself, all_alike_themselves, hidden_awaits-append, more_alike, node_alike}
+use Rattle.prune_laws.proofs.Alike.{AreAlike, IsAlike, alike_itself, all_alike_themselves, alike_both, hidden_awaits-append, more_alike, node_alike}
+use Rattle.prune_laws.proofs.Bare.{bare_says_nothing}
 use Rattle.prune_laws.proofs.Fewer.{as_many_pasts, is_missing}
 use Rattle.prune_laws.proofs.SelfChanges.{AreStill, all_self_still, self_still}
 use Rattle.prune_laws.proofs.SelfLogs.{IsSilent, all_self_silent, self_silent}
@@ -78,7 +80,7 @@ same_element_of : {d : Bool} {o n p q : Node} → Pruned d o n p q → element_o
 same_element_of whole = refl
 same_element_of (cut on still) = refl
 same_element_of (inside on keeps below) = refl
-same_element_of (in_place on olds news below) = refl
+same_element_of (in_place on lists) = refl
 
 -- lists of as many children have the same elements
 same_elements_in : {d : Bool} {ps qs : List Past} {ns ms : Forest} → PrunedIn d ps ns qs ms → length qs ≡ length ps → elements_in ms ≡ elements_in ns
@@ -130,12 +132,20 @@ mutual
       all_pruned_alike below (pasts_present os (elements_in ns) present.1) top (seen_below a moved e f m w os ns seen on.old_shown) (ap (λ b. displaced_below b w) here) in
       node_alike a moved e f m w os ns ps qs on (rw elements (gone_alike os ps (elements_in ns) keeps))
       (subst (λ es. AreAlike (compare_in top (pasts ps es) qs) (compare_in top (pasts os (elements_in ns)) ns)) (sym elements) kids)
-  pruned_alike (in_place {d} {e} {f} {m} {w} {os} {ns} {ps} {qs} on olds news below) present a moved seen here =
+  pruned_alike (in_place {d} {e} {f} {m} {w} {os} {ns} {ps} {qs} on lists) present a moved seen here =
       let top : Above = above_children (change_of a (was (node e m os none) moved) (node f w ns none)) in
+      let kept : AreInPlace ps qs = kept_in_place lists in
+      let wholes : AreInPlace os ns = wholes_in_place lists in
       let kids : AreAlike (compare_in top (stayed ps) qs) (compare_in top (stayed os) ns) =
-      all_pruned_alike below (stayed_present os present.1) top (seen_below a moved e f m w os ns seen on.old_shown) (ap (λ b. displaced_below b w) here) in
-      node_alike a moved e f m w os ns ps qs on (no_nodes_gone ps qs news ∙ sym (no_nodes_gone os ns olds))
-      (rw (pasts_in_place ps qs news, pasts_in_place os ns olds) kids)
+      in_place_alike lists present.1 top (seen_below a moved e f m w os ns seen on.old_shown) (ap (λ b. displaced_below b w) here) in
+      node_alike a moved e f m w os ns ps qs on (no_nodes_gone ps qs kept ∙ sym (no_nodes_gone os ns wholes))
+      (rw (pasts_in_place ps qs kept, pasts_in_place os ns wholes) kids)
+
+  in_place_alike : {d : Bool} {os ns ps qs : Forest} → PrunedInPlace d os ns ps qs → AllHaveNoNull os → (a : Above) → a.was_visible ≡ true → a.displaced ≡ d
+      → AreAlike (compare_in a (stayed ps) qs) (compare_in a (stayed os) ns)
+  in_place_alike (each {os = os} wholes kept below) present a seen here = all_pruned_alike below (stayed_present os present) a seen here
+  in_place_alike (through {e} {f} {m} {w} {os} {ns} {ps} {qs} bare stands lists) present a seen here =
+      alike_both (in_place_alike lists present.0.1 a seen here) (bare_says_nothing a e f m w os ns bare (wholes_in_place lists) seen here)
 
   all_pruned_alike : {d : Bool} {ps qs : List Past} {ns ms : Forest} → PrunedIn d ps ns qs ms → PastsPresent ps → (a : Above) → a.was_visible ≡ true → a.displaced ≡ d
       → AreAlike (compare_in a qs ms) (compare_in a ps ns)

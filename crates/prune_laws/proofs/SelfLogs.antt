@@ -26,14 +26,14 @@ none_differ : (es : List EffectRecord) → filter differs (zip es es) ≡ []
 none_differ [] = refl
 none_differ (e ∷ es) = rw (ints_self e.values, none_differ es) refl
 
-no_lines : (phase : Phase) (made : Bool) (m : Mark) → lines_at phase made m [] ≡ []
+pub no_lines : (phase : Phase) (made : Bool) (m : Mark) → lines_at phase made m [] ≡ []
 no_lines phase made m = go (option_and_then (λ i. i.number) (instance_in m)) refl
   where
     go : (n : Option ℕ) → option_and_then (λ i. i.number) (instance_in m) ≡ n → lines_at phase made m [] ≡ []
     go None e = rw e refl
     go (Some n) e = rw e refl
 
-nothing_either : (b : Bool) → cond b (let r : List LogLine = [] in r) [] ≡ []
+pub nothing_either : (b : Bool) → cond b (let r : List LogLine = [] in r) [] ≡ []
 nothing_either true = refl
 nothing_either false = refl
 

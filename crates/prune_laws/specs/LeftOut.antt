@@ -10,6 +10,13 @@ pub record LeaveOutAlike (n : ℕ) (old : Option Node) (new : Node) (pruned_old 
   pub old_is : times_numbered_if n old ≡ times_numbered_if n pruned_old + times
   pub new_is : times_numbered n new ≡ times_numbered n pruned_new + times
 
--- each instance of a list is one of another list
+-- Two instances are one, but for the nearest instance above: they have the same number, component and initial values, and both are visible or neither is.
+pub record IsSameInstance (one other : Mounted) : Type 0 where
+  pub number : one.number ≡ other.number
+  pub component : one.component ≡ other.component
+  pub initials : one.initials ≡ other.initials
+  pub visible : one.visible ≡ other.visible
+
+-- each instance of a list is one of another list, but for the nearest instance above
 abbrev pub AreWithin : List Mounted → List Mounted → Type 0
-AreWithin ms ns = (k : ℕ) (m : Mounted) → slice_get ms k ≡ Some m → (j : ℕ) × (slice_get ns j ≡ Some m)
+AreWithin ms ns = (k : ℕ) (m : Mounted) → slice_get ms k ≡ Some m → (j : ℕ) × (n : Mounted) × (slice_get ns j ≡ Some n) × IsSameInstance m n

@@ -3,8 +3,7 @@ use Rattle.std.specs.Prelude.{◌≡◌, ℕ, Bool, true, false, List, slice_set
 use Rattle.rx_elem.specs.Trees.{Node, Forest, none, elements_in, mark_of, fallback_of}
 use Rattle.rx_elem.specs.Compare.{pasts}
 use Rattle.rx_node.specs.Fixed.{is_fixed_mark}
-use Rattle.rx_pruned.specs.Pruned.{GoesOn, Pruned, PrunedIn, KeepsGone}
-use Rattle.rx_compare.specs.InPlace.{AreInPlace, stayed}
+use Rattle.rx_pruned.specs.Pruned.{GoesOn, Pruned, PrunedIn, PrunedInPlace, KeepsGone}
 
 -- if a commit leaves the mark of an old node as it is, this new one is that node
 abbrev pub IsKept : (old new : Node) → Type 0
@@ -36,5 +35,4 @@ pub data AreLists (displaced : Bool) : (old new pruned_old pruned_new : Forest) 
   as_they_are : {os ns : Forest} → AreLists displaced os ns os ns
   without_some : {os ns ps qs : Forest}
       → KeepsGone os ps (elements_in ns) → PrunedIn displaced (pasts os (elements_in ns)) ns (pasts ps (elements_in ns)) qs → AreLists displaced os ns ps qs
-  in_place : {os ns ps qs : Forest}
-      → AreInPlace os ns → AreInPlace ps qs → PrunedIn displaced (stayed os) ns (stayed ps) qs → AreLists displaced os ns ps qs
+  in_place : {os ns ps qs : Forest} → PrunedInPlace displaced os ns ps qs → AreLists displaced os ns ps qs

@@ -1,10 +1,10 @@
 -- An old tree and the new one that it became, both without some children that stayed the same.
-use Rattle.std.specs.Prelude.{◌≡◌, ℕ, Bool, false, ◌||◌, List, [], ◌∷◌, Option, Some, None, if◌then◌else◌}
+use Rattle.std.specs.Prelude.{◌≡◌, ℕ, Bool, false, ◌||◌, List, [], ◌∷◌, Option, Some, None, option_and_then, if◌then◌else◌}
 use Rattle.rx_elem.specs.Elements.{Element}
 use Rattle.rx_elem.specs.Identity.{old_places, is_reused}
-use Rattle.rx_elem.specs.Trees.{Mark, Node, node, Forest, none, vacant, child, elements_in, host_number, is_host, is_hidden}
+use Rattle.rx_elem.specs.Trees.{Mark, Node, node, Forest, none, vacant, child, elements_in, effects_in, host_number, instance_in, is_host, is_hidden}
 use Rattle.rx_elem.specs.Compare.{Past, pasts, node_at}
-use Rattle.rx_compare.specs.InPlace.{AreInPlace, stayed}
+use Rattle.rx_compare.specs.InPlace.{AreInPlace, IsInPlace, stayed}
 
 -- The way goes on below an old node and the new one that it became: neither is a hidden boundary, and a host is the same one.
 pub record GoesOn (old new : Mark) : Type 0 where
@@ -12,6 +12,14 @@ pub record GoesOn (old new : Mark) : Type 0 where
   pub new_shown : is_hidden new ≡ false
   pub hosts : is_host old ≡ is_host new
   pub numbers : host_number old ≡ host_number new
+
+-- An instance that stays says nothing itself: it had this number and has it still, and it had and has no effects.
+pub record StaysBare (old new : Mark) : Type 0 where
+  pub number : ℕ
+  pub was : option_and_then (λ i. i.number) (instance_in old) ≡ Some number
+  pub is : option_and_then (λ i. i.number) (instance_in new) ≡ Some number
+  pub had_none : effects_in old ≡ []
+  pub has_none : effects_in new ≡ []
 
 -- a node from one up to the host above the children of a node with this mark is new or moved
 abbrev pub displaced_below : (displaced : Bool) → Mark → Bool
@@ -36,8 +44,13 @@ mutual
         → GoesOn m w → KeepsGone os ps (elements_in ns) → PrunedIn (displaced_below d w) (pasts os (elements_in ns)) ns (pasts ps (elements_in ns)) qs
         → Pruned d (node e m os none) (node f w ns none) (node e m ps none) (node f w qs none)
     in_place : {d : Bool} {e f : Element} {m w : Mark} {os ns ps qs : Forest}
-        → GoesOn m w → AreInPlace os ns → AreInPlace ps qs → PrunedIn (displaced_below d w) (stayed os) ns (stayed ps) qs
-        → Pruned d (node e m os none) (node f w ns none) (node e m ps none) (node f w qs none)
+        → GoesOn m w → PrunedInPlace (displaced_below d w) os ns ps qs → Pruned d (node e m os none) (node f w ns none) (node e m ps none) (node f w qs none)
+
+  -- Two lists of which each child stands where it stood, both without some: child by child; or, if the only child is an instance that stays and has no effects, as the lists of its own children are.
+  pub data PrunedInPlace : (displaced : Bool) → (old new pruned_old pruned_new : Forest) → Type 0 where
+    each : {d : Bool} {os ns ps qs : Forest} → AreInPlace os ns → AreInPlace ps qs → PrunedIn d (stayed os) ns (stayed ps) qs → PrunedInPlace d os ns ps qs
+    through : {e f : Element} {m w : Mark} {os ns ps qs : Forest}
+        → StaysBare m w → IsInPlace e f → PrunedInPlace false os ns ps qs → PrunedInPlace false (child (node e m os none) none) (child (node f w ns none) none) ps qs
 
   -- The children of a list, each with its past: those that were there may be without some lists, and one that is the same, and was not moved, may be left out itself.
   pub data PrunedIn : (displaced : Bool) → (pasts : List Past) → (new : Forest) → (pruned_pasts : List Past) → (pruned_new : Forest) → Type 0 where

@@ -21,7 +21,8 @@ use Rattle.rx_hook_store.specs.Gives.{has_work_in}
 use Rattle.rx_meaning.specs.Expressions.{answers_of}
 use Rattle.rx_pruned.specs.Pruned.{ArePruned, later, whole}
 use Rattle.rx_pruned.specs.Pruned as pruning
-use Rattle.prune_laws.proofs.Within.{are_within}
+use Rattle.prune_laws.specs.LeftOut.{IsSameInstance}
+use Rattle.prune_laws.proofs.Within.{are_within, but_for_owner}
 use Rattle.rx_hook_store.specs.Rendered.{IsRendered, KeepsInstance}
 use Rattle.rx_hook_store.proofs.Committed.{committed_keeps}
 use Rattle.rx_hook_store.proofs.Staying.{there_is}
@@ -97,6 +98,28 @@ module _ (lanes : Lanes) (cut : Cut) (first : ℕ) (ms : List Mounted) (xs : Lis
         made = λ k m at le. its_own k m at (found xs settled m.number (are_made.each_has k m (slice_get_within ms k m at) at le));
       }
 
+-- ---- one instance below another
+
+-- what a commit makes of an instance's hooks does not depend on the nearest instance above
+settles_under : (p : Program) (s : State) (g : Progress) (old new : KeptBy) (m : Mounted) (owner : Option ℕ) → SettlesHooks p s g old new m
+    → SettlesHooks p s g old new (record m { owner = owner })
+settles_under p s g old new m owner (shown is renders change) = shown is renders change
+settles_under p s g old new m owner (hidden is keeps change) = hidden is keeps change
+settles_under p s g old new m owner (untouched keeps none same) = untouched keeps none same
+settles_under p s g old new m owner (made le are) = made le are
+
+settles_as : (p : Program) (s : State) (g : Progress) (old new : KeptBy) (one other : Mounted) → IsSameInstance one other → SettlesHooks p s g old new one
+    → SettlesHooks p s g old new other
+settles_as p s g old new one other alike settles =
+    subst (SettlesHooks p s g old new) (but_for_owner one other alike) (settles_under p s g old new one other.owner settles)
+
+-- neither does whether the instance is new
+new_or_kept_as : (p : Program) (s : State) (kept : KeptBy) (one other : Mounted) → IsSameInstance one other
+    → (s.numbers.instance ≤ other.number) ⊎ KeepsInstance p s kept other.number other.initials
+    → (s.numbers.instance ≤ one.number) ⊎ KeepsInstance p s kept one.number one.initials
+new_or_kept_as p s kept one other alike which =
+    subst (λ (y : Mounted). (s.numbers.instance ≤ y.number) ⊎ KeepsInstance p s kept y.number y.initials) (sym (but_for_owner one other alike)) which
+
 -- ---- the commit
 
 -- What is kept is settled over pruned trees, and each new instance in whose hooks the render has work is one of the pruned new one.
@@ -147,7 +170,10 @@ module _ (p : Program) (kept : KeptBy) (old : Option Node) (new : Node) (first :
 
     -- hooks are kept of each one that is not new
     pub pruned_kept : AreKept first kept (mounted (Some pruned_new))
-    pruned_kept k m at below = let whole = are_within old new pruned_old pruned_new pruned k m at in instances_kept whole.0 m whole.1 below
+    pruned_kept k m at below =
+        let whole = are_within old new pruned_old pruned_new pruned k m at in
+        let number : whole.1.number ≡ m.number = sym whole.3.number in
+        subst (λ n. IsSome (kept n)) number (instances_kept whole.0 whole.1 whole.2 (omega (arith, number)))
 
     -- if they have the numbers of those of the old one, they stay
     pub pruned_stay : numbers_of (mounted pruned_old) ≡ numbers_of (mounted (Some pruned_new)) → StayOld first (mounted pruned_old) (mounted (Some pruned_new))
@@ -231,8 +257,11 @@ module _ (p : Program) (kept : KeptBy) (old : Option Node) (new : Node) (first :
           go true has =
               let there = is_there (mounted (Some pruned_new)) m.number has in
               let whole = are_within old new pruned_old pruned_new pruned there.place there.instance there.at in
-              let same : there.instance ≡ m = one_instance (mounted (Some new)) (own_apart fixed.0.instance new own_new) whole.0 k there.instance m whole.1 in_new there.number_is in
-              each_settles there.place m (subst (λ (y : Mounted). slice_get (mounted (Some pruned_new)) there.place ≡ Some y) same there.at) (new_or_kept k m at)
+              let same : whole.1 ≡ m =
+              one_instance (mounted (Some new)) (own_apart fixed.0.instance new own_new) whole.0 k whole.1 m whole.2 in_new (sym whole.3.number ∙ there.number_is) in
+              let alike : IsSameInstance there.instance m = subst (IsSameInstance there.instance) same whole.3 in
+              settles_as p s g q.over.rendered last there.instance m alike
+              (each_settles there.place there.instance there.at (new_or_kept_as p s kept there.instance m alike (new_or_kept k m at)))
 
       passes_keep : KeepsAllHooks p (committed_state s g fixed) last
       passes_keep = committed_keeps p s g fixed q.over.rendered last targets_below h.links own_numbers any_settles
