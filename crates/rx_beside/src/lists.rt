@@ -108,7 +108,7 @@ fn add_whole(lists: &mut Lists, node: Option<Node>) -> Result<(), AllocError>
 
 // The old list and the new one as far as it goes, both without what stayed the same: as they are, if nothing was left
 // out so far. There is room for so many new ones at once.
-fn pruned_lists(
+pub(crate) fn pruned_lists(
     alloc: Global,
     pruned: Option<PrunedLists>,
     old: &[Option<Node>],
@@ -246,7 +246,7 @@ pub(crate) fn add_in_place(
 }
 
 // A list of one node.
-fn one_node(alloc: Global, node: Node) -> Result<Vec<Option<Node>>, AllocError>
+pub(crate) fn one_node(alloc: Global, node: Node) -> Result<Vec<Option<Node>>, AllocError>
     ensures { IfOk result (λ v. v.items ≡ Some node ∷ []) }
 {
     let mut nodes = Vec::with_capacity(alloc, 1)?;

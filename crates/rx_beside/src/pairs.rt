@@ -10,7 +10,7 @@ ghost use Rattle.rx_fiber.specs.Reading.{IsTreeOf};
 ghost use Rattle.rx_read.specs.Lists.{list_of};
 ghost use Rattle.rx_read.specs.Numbering.{made_entry};
 ghost use Rattle.rx_read.specs.Places.{places_in, first_node};
-ghost use Rattle.rx_pruned.specs.Pruned.{GoesOn, displaced_below, Pruned};
+ghost use Rattle.rx_pruned.specs.Pruned.{GoesOn, StaysBare, displaced_below, Pruned, PrunedInPlace};
 ghost use Rattle.rx_compare.specs.InPlace.{AreInPlace};
 ghost use Rattle.rx_beside.specs.Alike.{AllTakeAlike};
 ghost use Rattle.rx_beside.specs.Children.{IsChildOf, IsNodeOf, WasOver};
@@ -20,7 +20,7 @@ ghost use Rattle.rx_beside.specs.Slots.{IsKept, IsLeft, IsSlot, AreLists};
 use crate::children::{children_of, is_begun, only_child};
 use crate::lists::{
     Lists, Pair, PrunedLists, PrunedNodes, Slot, add_in_place, add_slot, are_in_place, copy_node,
-    copy_nodes, is_same, leave_out, match_fibers, only_lists,
+    copy_nodes, is_same, leave_out, match_fibers, one_node, only_lists, pruned_lists,
 };
 use rx_compare::node_at;
 use rx_elem::Element;
@@ -29,6 +29,7 @@ use rx_links::{FiberId, FiberTree};
 use rx_node::{Mark, Node};
 use rx_read::{made_child, read_fiber};
 use std::alloc::{AllocError, Global};
+use std::rc::Rc;
 
 // The number of a host or a text.
 fn host_number(mark: &Mark) -> Option<u64>
@@ -51,6 +52,32 @@ fn goes_on(old: &Mark, new: &Mark) -> bool
         && !new.is_caught()
         && old.is_host() == new.is_host()
         && host_number(old) == host_number(new)
+}
+
+// Whether an instance stands as it did, and was not rendered anew: it has the list of effects itself that it had.
+fn is_untouched(old: &Mark, new: &Mark) -> bool {
+    let Mark::Instance(was) = old else {
+        return false;
+    };
+    match new {
+        Mark::Instance(is) => Rc::ptr_eq(&was.effects, &is.effects),
+        _ => false,
+    }
+}
+
+// Whether a node that had the one mark and has the other is an instance that stays, and had and has no effects. One that was
+// rendered anew is not taken for such: its hooks may have had work, and a commit looks for those among what it compares.
+fn stays_bare(old: &Mark, new: &Mark) -> bool
+    ensures bare { result ≡ true → StaysBare (mark_seen old.now) (mark_seen new.now) }
+    ensures shown { result ≡ true → (shows_fallback (mark_seen old.now) ≡ false) × (shows_fallback (mark_seen new.now) ≡ false) }
+{
+    if !is_untouched(old, new) {
+        return false;
+    }
+    let Some(number) = new.instance_number() else {
+        return false;
+    };
+    old.instance_number() == Some(number) && old.effects().is_empty() && new.effects().is_empty()
 }
 
 // Whether a node from one up to the host above the children of a node is new or moved.
@@ -206,6 +233,28 @@ fn pair_over(
         tree,
         pruned: Some(nodes),
         left: false,
+    })
+}
+
+// The lists of an only child that is an instance that stays and has no effects, over those of its own children, which were
+// these. Those without what stayed the same are the same: nothing is told of the instance, so that it is left out.
+fn lists_through(
+    alloc: Global,
+    old: &[Option<Node>],
+    element: &Element,
+    mark: &Mark,
+    below: Lists,
+) -> Result<Lists, AllocError>
+    ensures tree { IfOk result (λ l. l.tree.items ≡ Some (node element.now (mark_seen mark.now) (forest below.tree.items) none) ∷ []) }
+    ensures pruned_old { (os : List (Option trees.Node)) → IfOk result (λ l. old_list os l.pruned ≡ old_list old.now below.pruned) }
+    ensures pruned_new { IfOk result (λ l. new_list l.tree.items l.pruned ≡ new_list below.tree.items below.pruned) }
+{
+    let Lists { tree, pruned } = below;
+    let lists = pruned_lists(alloc, pruned, old, tree.as_slice(), 1)?;
+    let node = node_over(alloc, element, mark, tree)?;
+    Ok(Lists {
+        tree: one_node(alloc, node)?,
+        pruned: Some(lists),
     })
 }
 
@@ -465,7 +514,10 @@ fn read_listed(
     Ok(lists)
 }
 
-// The list of an only child that stands where the old one did, which was an only child too.
+// The list of an only child that stands where the old one did, which was an only child too. If it is an instance that stays and
+// has no effects, and the same holds of its own children, it is left out of both lists without what stayed the same, and its
+// only child stands in its place: a commit finds nothing to do for the instance itself, so that what is compared of a chain of
+// components is what is at its end.
 #[cycle(pair)]
 fn read_only(
     alloc: Global,
@@ -481,8 +533,20 @@ fn read_only(
     requires node { (x : trees.Node) × (first_node (list_of tree.now (Some child)) ≡ Some x) }
     requires same { AreInPlace (forest (Some old.now ∷ [])) (forest (first_node (list_of tree.now (Some child)) ∷ [])) }
     ensures tree { IfOk result (λ l. l.tree.items ≡ first_node (list_of tree.now (Some child)) ∷ []) }
-    ensures pruned { IfOk result (λ l. AreLists displaced (forest (Some old.now ∷ [])) (forest l.tree.items) (forest (old_list (Some old.now ∷ []) l.pruned)) (forest (new_list l.tree.items l.pruned))) }
+    ensures pruned { IfOk result (λ l. PrunedInPlace displaced (forest (Some old.now ∷ [])) (forest l.tree.items) (forest (old_list (Some old.now ∷ []) l.pruned)) (forest (new_list l.tree.items l.pruned))) }
 {
+    tree.facts();
+    let fiber = tree.value(child);
+    if !displaced
+        && let Stage::Begun(mark) = fiber.stage()
+        && stays_bare(old.mark(), mark)
+        && let Some(below) = only_child(tree, child, made_child(tree, child))
+        && let Some(node) = was_only(tree, below, old.children())
+    {
+        let only = read_only(alloc, tree, below, node, false)?;
+        let through = lists_through(alloc, old.children(), fiber.element(), mark, only)?;
+        return Ok(through);
+    }
     let pair = read_pair(alloc, tree, child, old, displaced)?;
     let lists = only_lists(alloc, pair)?;
     Ok(lists)
