@@ -186,19 +186,21 @@ only_at (Some x ∷ []) n l e = ap (λ o. o ∷ []) (sym (node_at-list (Some x �
 only_at (x ∷ y ∷ os) n l e = absurd (omega arith)
 
 -- it stands where the old one did, which was an only child too
-pub only_stays : (d : Bool) (ts : List (Option Node)) (b : Option PrunedLists) (o n : Node) (c : Option PrunedNodes) (l : Bool) → ts ≡ Some n ∷ []
-    → old_list (Some o ∷ []) b ≡ old_stay l (Some o) c → new_list ts b ≡ new_stay l (Some n) c → AreInPlace (forest (Some o ∷ [])) (forest (Some n ∷ []))
+pub only_stays : (d : Bool) (b : Option PrunedLists) (o n : Node) (c : Option PrunedNodes) (l : Bool)
+    → old_list (Some o ∷ []) b ≡ old_stay l (Some o) c → new_list (Some n ∷ []) b ≡ new_stay l (Some n) c → AreInPlace (forest (Some o ∷ [])) (forest (Some n ∷ []))
     → IsSlot d (Some o) (Some n) (old_slot c) (new_slot (Some n) c) → (l ≡ true → IsLeft d (Some o) (Some n))
-    → PrunedInPlace d (forest (Some o ∷ [])) (forest ts) (forest (old_list (Some o ∷ []) b)) (forest (new_list ts b))
-only_stays d ts b o n c l et ep eq h slot out =
+    → PrunedInPlace d (forest (Some o ∷ [])) (forest (Some n ∷ [])) (forest (old_list (Some o ∷ []) b)) (forest (new_list (Some n ∷ []) b))
+only_stays d b o n c l ep eq h slot out =
     let one = one_stays d (Some o) (Some n) c l h slot out in
     let now = all_stay d (Some o ∷ []) (Some n ∷ []) _ _ (one_more d [] [] [] [] (Some o) (Some n) _ _ (none_stays d) h one) in
-    rw (ep, eq, et) now
+    rw (ep, eq) now
 
--- It stands so, and is an instance that stays and has no effects: without what stayed the same, its lists are those of its own children.
-pub only_through : (d : Bool) (o : Node) (f : Element) (w : Mark) (os ns ts : List (Option Node)) (b c : Option PrunedLists) → d ≡ false → StaysBare (mark_of o) w → IsInPlace (element_of o) f
-    → forest os ≡ children_of o → fallback_of o ≡ trees.none → PrunedInPlace false (forest os) (forest ns) (forest (old_list os b)) (forest (new_list ns b))
-    → ts ≡ Some (node f w (forest ns) trees.none) ∷ [] → old_list (Some o ∷ []) c ≡ old_list os b → new_list ts c ≡ new_list ns b
-    → PrunedInPlace d (forest (Some o ∷ [])) (forest ts) (forest (old_list (Some o ∷ []) c)) (forest (new_list ts c))
-only_through d (node e m cs fs) f w os ns ts b c still bare h kids gone below et ep eq =
-    rw (still, ep, eq, et, gone) (through bare h (subst (λ x. PrunedInPlace false x (forest ns) (forest (old_list os b)) (forest (new_list ns b))) kids below))
+-- It stands so, and is an instance that stays and has no effects: without what stayed the same, its lists are those of its own only child.
+pub only_through : (d : Bool) (o t a n : Node) (f : Element) (w : Mark) (os ns : List (Option Node)) (b c : Option PrunedLists) → d ≡ false → StaysBare (mark_of o) w → IsInPlace (element_of o) f
+    → forest os ≡ children_of o → fallback_of o ≡ trees.none → os ≡ Some a ∷ [] → ns ≡ Some n ∷ []
+    → PrunedInPlace false (forest (Some a ∷ [])) (forest (Some n ∷ [])) (forest (old_list (Some a ∷ []) b)) (forest (new_list (Some n ∷ []) b))
+    → t ≡ node f w (forest ns) trees.none → old_list (Some o ∷ []) c ≡ old_list (Some a ∷ []) b → new_list (Some t ∷ []) c ≡ new_list (Some n ∷ []) b
+    → PrunedInPlace d (forest (Some o ∷ [])) (forest (Some t ∷ [])) (forest (old_list (Some o ∷ []) c)) (forest (new_list (Some t ∷ []) c))
+only_through d (node e m cs fs) t a n f w os ns b c still bare h kids gone only one below et ep eq =
+    let same : forest (Some a ∷ []) ≡ cs = ap forest (sym only) ∙ kids in
+    rw (still, ep, eq, et, one, gone) (through bare h (subst (λ x. PrunedInPlace false x (forest (Some n ∷ [])) (forest (old_list (Some a ∷ []) b)) (forest (new_list (Some n ∷ []) b))) same below))

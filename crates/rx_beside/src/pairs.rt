@@ -20,7 +20,7 @@ ghost use Rattle.rx_beside.specs.Slots.{IsKept, IsLeft, IsSlot, AreLists};
 use crate::children::{children_of, is_begun, only_child};
 use crate::lists::{
     Lists, Pair, PrunedLists, PrunedNodes, Slot, add_in_place, add_slot, are_in_place, copy_node,
-    copy_nodes, is_same, leave_out, match_fibers, one_node, only_lists, pruned_lists,
+    copy_nodes, is_same, leave_above, leave_out, match_fibers, one_node, only_pruned,
 };
 use rx_compare::node_at;
 use rx_elem::Element;
@@ -233,28 +233,6 @@ fn pair_over(
         tree,
         pruned: Some(nodes),
         left: false,
-    })
-}
-
-// The lists of an only child that is an instance that stays and has no effects, over those of its own children, which were
-// these. Those without what stayed the same are the same: nothing is told of the instance, so that it is left out.
-fn lists_through(
-    alloc: Global,
-    old: &[Option<Node>],
-    element: &Element,
-    mark: &Mark,
-    below: Lists,
-) -> Result<Lists, AllocError>
-    ensures tree { IfOk result (λ l. l.tree.items ≡ Some (node element.now (mark_seen mark.now) (forest below.tree.items) none) ∷ []) }
-    ensures pruned_old { (os : List (Option trees.Node)) → IfOk result (λ l. old_list os l.pruned ≡ old_list old.now below.pruned) }
-    ensures pruned_new { IfOk result (λ l. new_list l.tree.items l.pruned ≡ new_list below.tree.items below.pruned) }
-{
-    let Lists { tree, pruned } = below;
-    let lists = pruned_lists(alloc, pruned, old, tree.as_slice(), 1)?;
-    let node = node_over(alloc, element, mark, tree)?;
-    Ok(Lists {
-        tree: one_node(alloc, node)?,
-        pruned: Some(lists),
     })
 }
 
@@ -514,10 +492,7 @@ fn read_listed(
     Ok(lists)
 }
 
-// The list of an only child that stands where the old one did, which was an only child too. If it is an instance that stays and
-// has no effects, and the same holds of its own children, it is left out of both lists without what stayed the same, and its
-// only child stands in its place: a commit finds nothing to do for the instance itself, so that what is compared of a chain of
-// components is what is at its end.
+// The list of an only child that stands where the old one did, which was an only child too.
 #[cycle(pair)]
 fn read_only(
     alloc: Global,
@@ -535,21 +510,51 @@ fn read_only(
     ensures tree { IfOk result (λ l. l.tree.items ≡ first_node (list_of tree.now (Some child)) ∷ []) }
     ensures pruned { IfOk result (λ l. PrunedInPlace displaced (forest (Some old.now ∷ [])) (forest l.tree.items) (forest (old_list (Some old.now ∷ []) l.pruned)) (forest (new_list l.tree.items l.pruned))) }
 {
+    let mut pruned = None;
+    let node = read_alone(alloc, tree, child, old, displaced, &mut pruned)?;
+    Ok(Lists {
+        tree: one_node(alloc, node)?,
+        pruned,
+    })
+}
+
+// Such an only child; and both lists without what stayed the same. If it is an instance that stays and has no effects, and
+// the same holds of its own children, it is left out of both, and its only child stands in its place: a commit has nothing to do
+// for the instance itself, so that of a chain of components what stands at its end is compared.
+#[cycle(pair)]
+fn read_alone(
+    alloc: Global,
+    tree: &FiberTree<Fiber>,
+    child: FiberId,
+    old: &Node,
+    displaced: bool,
+    pruned: &mut Option<PrunedLists>,
+) -> Result<Node, AllocError>
+    requires made { Makes tree.now.draft child }
+    requires tree { (y : Option trees.Node) × IsTreeOf y tree.now.current }
+    requires alike { AllTakeAlike tree.now.current tree.now.draft }
+    requires old { Some old.now ≡ first_node (list_of tree.now (old_of tree.now.draft child)) }
+    requires node { (x : trees.Node) × (first_node (list_of tree.now (Some child)) ≡ Some x) }
+    requires same { AreInPlace (forest (Some old.now ∷ [])) (forest (first_node (list_of tree.now (Some child)) ∷ [])) }
+    ensures tree { IfOk result (λ n. Some n ≡ first_node (list_of tree.now (Some child))) }
+    ensures pruned { IfOk result (λ n. PrunedInPlace displaced (forest (Some old.now ∷ [])) (forest (Some n ∷ [])) (forest (old_list (Some old.now ∷ []) pruned.new)) (forest (new_list (Some n ∷ []) pruned.new))) }
+{
     tree.facts();
     let fiber = tree.value(child);
     if !displaced
         && let Stage::Begun(mark) = fiber.stage()
         && stays_bare(old.mark(), mark)
         && let Some(below) = only_child(tree, child, made_child(tree, child))
-        && let Some(node) = was_only(tree, below, old.children())
+        && let Some(was) = was_only(tree, below, old.children())
     {
-        let only = read_only(alloc, tree, below, node, false)?;
-        let through = lists_through(alloc, old.children(), fiber.element(), mark, only)?;
-        return Ok(through);
+        let only = read_alone(alloc, tree, below, was, false, pruned)?;
+        leave_above(alloc, pruned, was, &only)?;
+        let above = node_over(alloc, fiber.element(), mark, one_node(alloc, only)?)?;
+        return Ok(above);
     }
     let pair = read_pair(alloc, tree, child, old, displaced)?;
-    let lists = only_lists(alloc, pair)?;
-    Ok(lists)
+    *pruned = only_pruned(alloc, pair.pruned, pair.left)?;
+    Ok(pair.tree)
 }
 
 // The same if each is the old one at its place.
