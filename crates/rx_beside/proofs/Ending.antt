@@ -91,7 +91,7 @@ pub lists_pruned : (d : Bool) (e f : Element) (m w : Mark) (os ns ps qs : Forest
 lists_pruned d e f m w os _ _ _ g (left_out n) = cut g n
 lists_pruned d e f m w os ns _ _ g as_they_are = whole
 lists_pruned d e f m w os ns ps qs g (without_some k h) = inside g k h
-lists_pruned d e f m w os ns ps qs g (in_place h k l) = pruned.in_place g h k l
+lists_pruned d e f m w os ns ps qs g (in_place h) = pruned.in_place g h
 
 pub pair_pruned : (d : Bool) (o t p q : Node) (f : Element) (w : Mark) (os ns ps qs : Forest) → GoesOn (mark_of o) w → AreLists (displaced_below d w) os ns ps qs
     → os ≡ children_of o → fallback_of o ≡ trees.none → t ≡ node f w ns trees.none → p ≡ node (element_of o) (mark_of o) ps trees.none → q ≡ node f w qs trees.none

@@ -216,3 +216,11 @@ module _ (t : Trees Fiber) (p : ℕ) (b : Beside t p) where
 
   pub made_none : is_some (entry (made_kids_of t.draft p)) ≡ false → list_of t (made_entry (made_kids_of t.draft p)) ≡ grafted (made_kids_of t.draft p)
   made_none h = none_by t (made_kids_of t.draft p) h
+
+-- The node of a made fiber that is not hidden and has made children stands over their nodes.
+pub made_node : (t : Trees Fiber) (p : ℕ) → (b : Beside t p) → (v : Fiber) → Some v ≡ made_value_of t.draft p → (m : Mark) → v.stage ≡ begun m → shows_fallback m ≡ false
+    → is_some (made_entry (made_kids_of t.draft p)) ≡ true → (ns : List (Option Node)) → ns ≡ places_in 0 (list_of t (made_entry (made_kids_of t.draft p)))
+    → first_node (list_of t (Some p)) ≡ Some (node v.element m (forest ns) trees.none)
+made_node t p b v value m e h some ns kids =
+    new_node t p b v value m e h
+    ∙ ap (λ ns. Some (node v.element m (forest ns) trees.none)) (sym (kids ∙ ap (places_in 0) (made_some t p b some)))

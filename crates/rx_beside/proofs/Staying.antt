@@ -4,11 +4,12 @@ use Rattle.std.specs.Prelude.{slice_get}
 use Rattle.std.specs.Option.{option_flatten}
 use Rattle.std.proofs.lemmas.List.{append-nil, length-map, map-append, take_all, take_more}
 use Rattle.std.proofs.lemmas.Option.{slice_get-get_or}
-use Rattle.rx_elem.specs.Trees.{Node, vacant, child, forest, element_of}
+use Rattle.rx_elem.specs.Elements.{Element}
+use Rattle.rx_elem.specs.Trees.{Mark, Node, node, vacant, child, forest, element_of, mark_of, children_of, fallback_of}
 use Rattle.rx_elem.specs.Trees as trees
 use Rattle.rx_elem.specs.Compare.{node_at}
 use Rattle.rx_node.proofs.Listing.{places-forest}
-use Rattle.rx_pruned.specs.Pruned.{Pruned, PrunedIn, no_more, gap, same, pair, left}
+use Rattle.rx_pruned.specs.Pruned.{StaysBare, Pruned, PrunedInPlace, each, through, PrunedIn, no_more, gap, same, pair, left}
 use Rattle.rx_compare.specs.InPlace.{IsInPlace, AreInPlace, stayed}
 use Rattle.rx_compare.proofs.InPlaceLists.{in_place-length, stays}
 use Rattle.rx_beside.specs.declared.lists.PrunedLists.{PrunedLists}
@@ -102,8 +103,8 @@ one_more d os ts ps qs o x rs ys s h one = record {
     stayed_one (Some n) = refl
 
 -- Lists that are walked to their ends are beside each other without what stayed the same.
-pub all_stay : (d : Bool) (os ts ps qs : List (Option Node)) → Stays d os ts ps qs → AreLists d (forest os) (forest ts) (forest ps) (forest qs)
-all_stay d os ts ps qs s = in_place s.here s.there s.pruned
+pub all_stay : (d : Bool) (os ts ps qs : List (Option Node)) → Stays d os ts ps qs → PrunedInPlace d (forest os) (forest ts) (forest ps) (forest qs)
+all_stay d os ts ps qs s = each s.here s.there s.pruned
 
 -- One place more of a made list
 
@@ -173,7 +174,7 @@ module _ (d : Bool) (os : List (Option Node)) (f : Option ℕ → Option Node) (
       → (ts ≡ map f fs) × AreLists d (forest os) (forest ts) (forest (old_list os b)) (forest (new_list ts b))
   done i l ts b so_far s = (
     so_far ∙ ap (map f) (take_all i fs l),
-    all_stay d os ts _ _ (subst (λ z. Stays d z ts (old_list z b) (new_list ts b)) (take_all i os (omega (arith, even))) s),
+    in_place (all_stay d os ts _ _ (subst (λ z. Stays d z ts (old_list z b) (new_list ts b)) (take_all i os (omega (arith, even))) s)),
   )
 
 -- The list of an only child
@@ -185,11 +186,21 @@ only_at (Some x ∷ []) n l e = ap (λ o. o ∷ []) (sym (node_at-list (Some x �
 only_at (x ∷ y ∷ os) n l e = absurd (omega arith)
 
 -- it stands where the old one did, which was an only child too
-pub only_stays : (d : Bool) (os ts : List (Option Node)) (b : Option PrunedLists) (o n : Node) (c : Option PrunedNodes) (l : Bool) → os ≡ Some o ∷ [] → ts ≡ Some n ∷ []
-    → old_list (Some o ∷ []) b ≡ old_stay l (Some o) c → new_list ts b ≡ new_stay l (Some n) c → AreInPlace (forest (Some o ∷ [])) (forest (Some n ∷ []))
+pub only_stays : (d : Bool) (b : Option PrunedLists) (o n : Node) (c : Option PrunedNodes) (l : Bool)
+    → old_list (Some o ∷ []) b ≡ old_stay l (Some o) c → new_list (Some n ∷ []) b ≡ new_stay l (Some n) c → AreInPlace (forest (Some o ∷ [])) (forest (Some n ∷ []))
     → IsSlot d (Some o) (Some n) (old_slot c) (new_slot (Some n) c) → (l ≡ true → IsLeft d (Some o) (Some n))
-    → AreLists d (forest os) (forest ts) (forest (old_list os b)) (forest (new_list ts b))
-only_stays d os ts b o n c l os_is et ep eq h slot out =
+    → PrunedInPlace d (forest (Some o ∷ [])) (forest (Some n ∷ [])) (forest (old_list (Some o ∷ []) b)) (forest (new_list (Some n ∷ []) b))
+only_stays d b o n c l ep eq h slot out =
     let one = one_stays d (Some o) (Some n) c l h slot out in
     let now = all_stay d (Some o ∷ []) (Some n ∷ []) _ _ (one_more d [] [] [] [] (Some o) (Some n) _ _ (none_stays d) h one) in
-    subst (λ z. AreLists d (forest z) (forest ts) (forest (old_list z b)) (forest (new_list ts b))) (sym os_is) (rw (ep, eq, et) now)
+    rw (ep, eq) now
+
+-- It stands so, and is an instance that stays and has no effects: without what stayed the same, its lists are those of its own only child.
+pub only_through : (d : Bool) (o t a n : Node) (f : Element) (w : Mark) (os ns : List (Option Node)) (b c : Option PrunedLists) → d ≡ false → StaysBare (mark_of o) w → IsInPlace (element_of o) f
+    → forest os ≡ children_of o → fallback_of o ≡ trees.none → os ≡ Some a ∷ [] → ns ≡ Some n ∷ []
+    → PrunedInPlace false (forest (Some a ∷ [])) (forest (Some n ∷ [])) (forest (old_list (Some a ∷ []) b)) (forest (new_list (Some n ∷ []) b))
+    → t ≡ node f w (forest ns) trees.none → old_list (Some o ∷ []) c ≡ old_list (Some a ∷ []) b → new_list (Some t ∷ []) c ≡ new_list (Some n ∷ []) b
+    → PrunedInPlace d (forest (Some o ∷ [])) (forest (Some t ∷ [])) (forest (old_list (Some o ∷ []) c)) (forest (new_list (Some t ∷ []) c))
+only_through d (node e m cs fs) t a n f w os ns b c still bare h kids gone only one below et ep eq =
+    let same : forest (Some a ∷ []) ≡ cs = ap forest (sym only) ∙ kids in
+    rw (still, ep, eq, et, one, gone) (through bare h (subst (λ x. PrunedInPlace false x (forest (Some n ∷ [])) (forest (old_list (Some a ∷ []) b)) (forest (new_list (Some n ∷ []) b))) same below))

@@ -121,14 +121,14 @@ pub same_element : (d : Bool) (o n p q : Node) → Pruned d o n p q → element_
 same_element d o n _ _ whole = refl
 same_element d _ _ _ _ (cut g e) = refl
 same_element d _ _ _ _ (inside g k h) = refl
-same_element d _ _ _ _ (in_place g h k l) = refl
+same_element d _ _ _ _ (in_place g h) = refl
 
 -- the same of the new node
 pub same_new_element : (d : Bool) (o n p q : Node) → Pruned d o n p q → element_of q ≡ element_of n
 same_new_element d o n _ _ whole = refl
 same_new_element d _ _ _ _ (cut g e) = refl
 same_new_element d _ _ _ _ (inside g k h) = refl
-same_new_element d _ _ _ _ (in_place g h k l) = refl
+same_new_element d _ _ _ _ (in_place g h) = refl
 
 -- The walk
 

@@ -60,6 +60,7 @@ pub(crate) fn only_child(
     requires first { first ≡ made_entry (made_kids_of tree.now.draft id) }
     ensures places { IfSome result (λ c. places_in 0 (list_of tree.now first) ≡ first_node (list_of tree.now (Some c)) ∷ []) }
     ensures child { IfSome result (IsNodeOf tree.now id) }
+    ensures first { IfSome result (λ c. first ≡ Some c) }
 {
     tree.facts();
     let child = first?;

@@ -246,7 +246,7 @@ pub(crate) fn add_in_place(
 }
 
 // A list of one node.
-fn one_node(alloc: Global, node: Node) -> Result<Vec<Option<Node>>, AllocError>
+pub(crate) fn one_node(alloc: Global, node: Node) -> Result<Vec<Option<Node>>, AllocError>
     ensures { IfOk result (λ v. v.items ≡ Some node ∷ []) }
 {
     let mut nodes = Vec::with_capacity(alloc, 1)?;
@@ -254,35 +254,49 @@ fn one_node(alloc: Global, node: Node) -> Result<Vec<Option<Node>>, AllocError>
     Ok(nodes)
 }
 
-// The lists of an only child that stands where the old one did, which was an only child too.
-pub(crate) fn only_lists(alloc: Global, pair: Pair) -> Result<Lists, AllocError>
-    ensures tree { IfOk result (λ l. l.tree.items ≡ Some pair.tree ∷ []) }
-    ensures pruned_old { (o : trees.Node) → IfOk result (λ l. old_list (Some o ∷ []) l.pruned ≡ old_stay pair.left (Some o) pair.pruned) }
-    ensures pruned_new { IfOk result (λ l. new_list l.tree.items l.pruned ≡ new_stay pair.left (Some pair.tree) pair.pruned) }
+// The lists of an only child that stands where the old one did, which was an only child too, both without what stayed the same;
+// nothing, if they are as they are.
+pub(crate) fn only_pruned(
+    alloc: Global,
+    nodes: Option<PrunedNodes>,
+    left: bool,
+) -> Result<Option<PrunedLists>, AllocError>
+    ensures old { (o : trees.Node) → IfOk result (λ l. old_list (Some o ∷ []) l ≡ old_stay left (Some o) nodes) }
+    ensures new { (n : trees.Node) → IfOk result (λ l. new_list (Some n ∷ []) l ≡ new_stay left (Some n) nodes) }
 {
-    let Pair { tree, pruned, left } = pair;
-    let tree = one_node(alloc, tree)?;
     if left {
-        let none = PrunedLists {
+        return Ok(Some(PrunedLists {
             old: Vec::new(alloc),
             new: Vec::new(alloc),
-        };
-        return Ok(Lists {
-            tree,
-            pruned: Some(none),
+        }));
+    }
+    match nodes {
+        Some(nodes) => Ok(Some(PrunedLists {
+            old: one_node(alloc, nodes.old)?,
+            new: one_node(alloc, nodes.new)?,
+        })),
+        None => Ok(None),
+    }
+}
+
+// Goes on above an only child, of which these are the lists without what stayed the same: as they are, if nothing was left out so
+// far.
+pub(crate) fn leave_above(
+    alloc: Global,
+    pruned: &mut Option<PrunedLists>,
+    old: &Node,
+    new: &Node,
+) -> Result<(), AllocError>
+    ensures old { (os : List (Option trees.Node)) → OnOk result (old_list os pruned.new ≡ old_list (Some old.now ∷ []) pruned.old) }
+    ensures new { (ns : List (Option trees.Node)) → OnOk result (new_list ns pruned.new ≡ new_list (Some new.now ∷ []) pruned.old) }
+{
+    if pruned.is_none() {
+        *pruned = Some(PrunedLists {
+            old: one_node(alloc, old.copy()?)?,
+            new: one_node(alloc, new.copy()?)?,
         });
     }
-    let Some(nodes) = pruned else {
-        return Ok(Lists { tree, pruned: None });
-    };
-    let lists = PrunedLists {
-        old: one_node(alloc, nodes.old)?,
-        new: one_node(alloc, nodes.new)?,
-    };
-    Ok(Lists {
-        tree,
-        pruned: Some(lists),
-    })
+    Ok(())
 }
 
 // The element that stands at a place of a made list.

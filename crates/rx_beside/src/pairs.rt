@@ -10,7 +10,7 @@ ghost use Rattle.rx_fiber.specs.Reading.{IsTreeOf};
 ghost use Rattle.rx_read.specs.Lists.{list_of};
 ghost use Rattle.rx_read.specs.Numbering.{made_entry};
 ghost use Rattle.rx_read.specs.Places.{places_in, first_node};
-ghost use Rattle.rx_pruned.specs.Pruned.{GoesOn, displaced_below, Pruned};
+ghost use Rattle.rx_pruned.specs.Pruned.{GoesOn, StaysBare, displaced_below, Pruned, PrunedInPlace};
 ghost use Rattle.rx_compare.specs.InPlace.{AreInPlace};
 ghost use Rattle.rx_beside.specs.Alike.{AllTakeAlike};
 ghost use Rattle.rx_beside.specs.Children.{IsChildOf, IsNodeOf, WasOver};
@@ -20,7 +20,7 @@ ghost use Rattle.rx_beside.specs.Slots.{IsKept, IsLeft, IsSlot, AreLists};
 use crate::children::{children_of, is_begun, only_child};
 use crate::lists::{
     Lists, Pair, PrunedLists, PrunedNodes, Slot, add_in_place, add_slot, are_in_place, copy_node,
-    copy_nodes, is_same, leave_out, match_fibers, only_lists,
+    copy_nodes, is_same, leave_above, leave_out, match_fibers, one_node, only_pruned,
 };
 use rx_compare::node_at;
 use rx_elem::Element;
@@ -29,6 +29,7 @@ use rx_links::{FiberId, FiberTree};
 use rx_node::{Mark, Node};
 use rx_read::{made_child, read_fiber};
 use std::alloc::{AllocError, Global};
+use std::rc::Rc;
 
 // The number of a host or a text.
 fn host_number(mark: &Mark) -> Option<u64>
@@ -51,6 +52,32 @@ fn goes_on(old: &Mark, new: &Mark) -> bool
         && !new.is_caught()
         && old.is_host() == new.is_host()
         && host_number(old) == host_number(new)
+}
+
+// Whether an instance stands as it did, and was not rendered anew: it has the list of effects itself that it had.
+fn is_untouched(old: &Mark, new: &Mark) -> bool {
+    let Mark::Instance(was) = old else {
+        return false;
+    };
+    match new {
+        Mark::Instance(is) => Rc::ptr_eq(&was.effects, &is.effects),
+        _ => false,
+    }
+}
+
+// Whether a node that had the one mark and has the other is an instance that stays, and had and has no effects. One that was
+// rendered anew is not taken for such: its hooks may have had work, and a commit looks for those among what it compares.
+fn stays_bare(old: &Mark, new: &Mark) -> bool
+    ensures bare { result ≡ true → StaysBare (mark_seen old.now) (mark_seen new.now) }
+    ensures shown { result ≡ true → (shows_fallback (mark_seen old.now) ≡ false) × (shows_fallback (mark_seen new.now) ≡ false) }
+{
+    if !is_untouched(old, new) {
+        return false;
+    }
+    let Some(number) = new.instance_number() else {
+        return false;
+    };
+    old.instance_number() == Some(number) && old.effects().is_empty() && new.effects().is_empty()
 }
 
 // Whether a node from one up to the host above the children of a node is new or moved.
@@ -481,11 +508,53 @@ fn read_only(
     requires node { (x : trees.Node) × (first_node (list_of tree.now (Some child)) ≡ Some x) }
     requires same { AreInPlace (forest (Some old.now ∷ [])) (forest (first_node (list_of tree.now (Some child)) ∷ [])) }
     ensures tree { IfOk result (λ l. l.tree.items ≡ first_node (list_of tree.now (Some child)) ∷ []) }
-    ensures pruned { IfOk result (λ l. AreLists displaced (forest (Some old.now ∷ [])) (forest l.tree.items) (forest (old_list (Some old.now ∷ []) l.pruned)) (forest (new_list l.tree.items l.pruned))) }
+    ensures pruned { IfOk result (λ l. PrunedInPlace displaced (forest (Some old.now ∷ [])) (forest l.tree.items) (forest (old_list (Some old.now ∷ []) l.pruned)) (forest (new_list l.tree.items l.pruned))) }
 {
+    let mut pruned = None;
+    let node = read_alone(alloc, tree, child, old, displaced, &mut pruned)?;
+    Ok(Lists {
+        tree: one_node(alloc, node)?,
+        pruned,
+    })
+}
+
+// Such an only child; and both lists without what stayed the same. If it is an instance that stays and has no effects, and
+// the same holds of its own children, it is left out of both, and its only child stands in its place: a commit has nothing to do
+// for the instance itself, so that of a chain of components what stands at its end is compared.
+#[cycle(pair)]
+fn read_alone(
+    alloc: Global,
+    tree: &FiberTree<Fiber>,
+    child: FiberId,
+    old: &Node,
+    displaced: bool,
+    pruned: &mut Option<PrunedLists>,
+) -> Result<Node, AllocError>
+    requires made { Makes tree.now.draft child }
+    requires tree { (y : Option trees.Node) × IsTreeOf y tree.now.current }
+    requires alike { AllTakeAlike tree.now.current tree.now.draft }
+    requires old { Some old.now ≡ first_node (list_of tree.now (old_of tree.now.draft child)) }
+    requires node { (x : trees.Node) × (first_node (list_of tree.now (Some child)) ≡ Some x) }
+    requires same { AreInPlace (forest (Some old.now ∷ [])) (forest (first_node (list_of tree.now (Some child)) ∷ [])) }
+    ensures tree { IfOk result (λ n. Some n ≡ first_node (list_of tree.now (Some child))) }
+    ensures pruned { IfOk result (λ n. PrunedInPlace displaced (forest (Some old.now ∷ [])) (forest (Some n ∷ [])) (forest (old_list (Some old.now ∷ []) pruned.new)) (forest (new_list (Some n ∷ []) pruned.new))) }
+{
+    tree.facts();
+    let fiber = tree.value(child);
+    if !displaced
+        && let Stage::Begun(mark) = fiber.stage()
+        && stays_bare(old.mark(), mark)
+        && let Some(below) = only_child(tree, child, made_child(tree, child))
+        && let Some(was) = was_only(tree, below, old.children())
+    {
+        let only = read_alone(alloc, tree, below, was, false, pruned)?;
+        leave_above(alloc, pruned, was, &only)?;
+        let above = node_over(alloc, fiber.element(), mark, one_node(alloc, only)?)?;
+        return Ok(above);
+    }
     let pair = read_pair(alloc, tree, child, old, displaced)?;
-    let lists = only_lists(alloc, pair)?;
-    Ok(lists)
+    *pruned = only_pruned(alloc, pair.pruned, pair.left)?;
+    Ok(pair.tree)
 }
 
 // The same if each is the old one at its place.

@@ -1,4 +1,4 @@
-use Rattle.std.proofs.Common.{ℕ, Option, [], ◌∷◌, ◌++◌, map, take, All, IfSome, Some, refl, sym, ap, ◌∙◌, subst, arith}
+use Rattle.std.proofs.Common.{ℕ, is_some, Option, [], ◌∷◌, ◌++◌, map, take, All, IfSome, Some, refl, sym, ap, ◌∙◌, subst, arith}
 use Rattle.std.proofs.lemmas.List.{length-take-le}
 use Rattle.std.proofs.lemmas.List.Elements.{All-get_or}
 use Rattle.std.specs.Prelude.{option_and_then}
@@ -7,14 +7,14 @@ use Rattle.rx_elem.specs.Compare.{node_at}
 use Rattle.rx_node.specs.MarkView.{mark_seen}
 use Rattle.rx_fiber.specs.FiberView.{stage_seen}
 use Rattle.rx_compare.specs.InPlace.{AreInPlace}
-use Rattle.rx_pruned.specs.Pruned.{GoesOn}
+use Rattle.rx_pruned.specs.Pruned.{GoesOn, StaysBare}
 use Rattle.rx_read.specs.Lists.{list_of}
 use Rattle.rx_read.specs.Places.{places_in, first_node}
 use Rattle.rx_beside.specs.Children.{IsNodeOf}
 use Rattle.rx_beside.specs.Parts.{old_slot, new_slot, old_list, new_list}
 use Rattle.rx_beside.specs.Slots.{IsKept, IsLeft, IsSlot, AreLists}
 use Rattle.rx_beside.specs.Slots as slots
-use Rattle.rx_beside.proofs.Standing.{beside_at, old_children, new_node}
+use Rattle.rx_beside.proofs.Standing.{beside_at, old_children, new_node, made_node}
 use Rattle.rx_beside.proofs.Keeping.{kept_node, taken_node}
 use Rattle.rx_beside.proofs.Here.{slot_lower}
 use Rattle.rx_beside.proofs.Ending.{places_even, moved_even, step, done, slot_by}
@@ -262,14 +262,58 @@ read_pair-returns-then-takes_over-clause-left t c =
     let o = old_children trees c.facts.ensures.fits c.facts.ensures.linked c.args.id c.requires.made old c.requires.old was in
     c.in_ok-taken.ensures.left (subst (λ e. IsKept old (node e w (children_of old) none)) (sym c.element.ensures) kept) (subst (λ m. GoesOn m w) c.mark.ensures g) o.1
 
-pub read_only-returns-clause-pruned : goal.read_only-returns-clause-pruned
-read_only-returns-clause-pruned t c =
+pub read_made-returns-in_ok-only-in-Some-was_only-clause-pruned : goal.read_made-returns-in_ok-only-in-Some-was_only-clause-pruned
+read_made-returns-in_ok-only-in-Some-was_only-clause-pruned t c =
+    let l = c.in_ok-only-in-Some-was_only.only in
+    subst (λ os. AreLists c.args.displaced (forest os) (forest l.tree.items) (forest (old_list os l.pruned)) (forest (new_list l.tree.items l.pruned))) (sym c.in-Some-was_only.ensures.only)
+    (slots.in_place c.in_ok-only-in-Some-was_only.ensures.pruned)
+
+pub read_alone-was_only-requires-clause-over : goal.read_alone-was_only-requires-clause-over
+read_alone-was_only-requires-clause-over t c =
+    let shown = c.stays_bare.ensures.shown c.if-stays_bare.true in
+    let o = old_children c.args.tree.now c.facts.ensures.fits c.facts.ensures.linked c.args.child c.requires.made c.args.old.now c.requires.old (ap shows_fallback (sym c.mark.ensures) ∙ shown.0) in
+    (c.args.child, record { made = c.requires.made; read = c.children.ensures.all ∙ o.0 }, c.in-Some.ensures.child)
+
+pub read_alone-returns-clause-tree : goal.read_alone-returns-clause-tree
+read_alone-returns-clause-tree t c =
+    let trees = c.args.tree.now in
+    let v = c.value-fiber.result.now in
+    let w = mark_seen c.in-Begun.mark in
+    let ns = c.in_ok-one_node.field-0.items in
+    let shown = c.stays_bare.ensures.shown c.if-stays_bare.true in
+    let b = beside_at trees c.facts.ensures.fits c.facts.ensures.linked c.args.child c.requires.made in
+    let some = ap is_some (sym c.made_child.ensures.entry ∙ c.in-Some.ensures.first) in
+    let kids = c.in_ok-one_node.ensures ∙ ap (λ o. o ∷ []) c.in_ok-only.ensures.tree ∙ sym c.in-Some.ensures.places ∙ ap (λ o. places_in 0 (list_of trees o)) c.made_child.ensures.entry in
+    let n = made_node trees c.args.child b v (c.value-fiber.ensures.made c.requires.made) w (sym c.stage.ensures ∙ ap stage_seen c.in-Begun.is) shown.1 some ns kids in
+    ap Some (c.in_ok-above.ensures ∙ ap (λ e. node e w (forest ns) none) c.element.ensures) ∙ sym n
+
+pub read_alone-returns-clause-pruned : goal.read_alone-returns-clause-pruned
+read_alone-returns-clause-pruned t c =
+    let trees = c.args.tree.now in
+    let old = c.args.old.now in
+    let v = c.value-fiber.result.now in
+    let w = mark_seen c.in-Begun.mark in
+    let ns = c.in_ok-one_node.field-0.items in
+    let shown = c.stays_bare.ensures.shown c.if-stays_bare.true in
+    let b = beside_at trees c.facts.ensures.fits c.facts.ensures.linked c.args.child c.requires.made in
+    let some = ap is_some (sym c.made_child.ensures.entry ∙ c.in-Some.ensures.first) in
+    let kids = c.in_ok-one_node.ensures ∙ ap (λ o. o ∷ []) c.in_ok-only.ensures.tree ∙ sym c.in-Some.ensures.places ∙ ap (λ o. places_in 0 (list_of trees o)) c.made_child.ensures.entry in
+    let n = made_node trees c.args.child b v (c.value-fiber.ensures.made c.requires.made) w (sym c.stage.ensures ∙ ap stage_seen c.in-Begun.is) shown.1 some ns kids in
+    let here = subst (λ x. AreInPlace (forest (Some old ∷ [])) (forest (x ∷ []))) n c.requires.same in
+    let o = old_children trees c.facts.ensures.fits c.facts.ensures.linked c.args.child c.requires.made old c.requires.old (ap shows_fallback (sym c.mark.ensures) ∙ shown.0) in
+    let above = c.in_ok-above.above in
+    stay.only_through c.args.displaced old above c.in-Some-was_only.was.now c.in_ok-only.only v.element w c.children.result.now ns c.read_alone.new.pruned c.leave_above.new.pruned
+    c.if-not-displaced.true (subst (λ m. StaysBare m w) c.mark.ensures (c.stays_bare.ensures.bare c.if-stays_bare.true)) here.0 c.children.ensures.all o.1
+    c.in-Some-was_only.ensures.only c.in_ok-one_node.ensures c.in_ok-only.ensures.pruned
+    (c.in_ok-above.ensures ∙ ap (λ e. node e w (forest ns) none) c.element.ensures)
+    (c.in_ok-leave_above.ensures.old (Some old ∷ [])) (c.in_ok-leave_above.ensures.new (Some above ∷ []))
+
+pub read_alone-returns-2-clause-pruned : goal.read_alone-returns-2-clause-pruned
+read_alone-returns-2-clause-pruned t c =
     let o = c.args.old.now in
     let p = c.in_ok-pair.pair in
-    let l = c.in_ok-lists.lists in
     let same = subst (λ x. AreInPlace (forest (Some o ∷ [])) (forest (x ∷ []))) (sym c.in_ok-pair.ensures.tree) c.requires.same in
-    stay.only_stays c.args.displaced (Some o ∷ []) l.tree.items l.pruned o p.tree p.pruned p.left refl
-    c.in_ok-lists.ensures.tree (c.in_ok-lists.ensures.pruned_old o) c.in_ok-lists.ensures.pruned_new
+    stay.only_stays c.args.displaced c.in_ok-pruned.field-0 o p.tree p.pruned p.left (c.in_ok-pruned.ensures.old o) (c.in_ok-pruned.ensures.new p.tree)
     same (slot_by c.args.displaced (Some o) o p.tree p.pruned refl c.in_ok-pair.ensures.pruned) c.in_ok-pair.ensures.left
 
 pub read_slot-returns-in_default-clause-pruned : goal.read_slot-returns-in_default-clause-pruned

@@ -17,7 +17,10 @@ abbrev pub decreases-read_listed : goal.decreases-read_listed
 decreases-read_listed l = 5 * size (list_of l.tree.now (Some l.id)) + 2
 
 abbrev pub decreases-read_only : goal.decreases-read_only
-decreases-read_only l = 5 * size (list_of l.tree.now (Some l.child)) + 5
+decreases-read_only l = 5 * size (list_of l.tree.now (Some l.child)) + 6
+
+abbrev pub decreases-read_alone : goal.decreases-read_alone
+decreases-read_alone l = 5 * size (list_of l.tree.now (Some l.child)) + 5
 
 abbrev pub decreases-read_in_place : goal.decreases-read_in_place
 decreases-read_in_place l = 5 * size (list_of l.tree.now (Some l.id)) + 1
