@@ -99,9 +99,10 @@ fn read_first(alloc: Global, tree: &FiberTree<Fiber>, root: FiberId) -> Result<B
 
 /// The tree in progress, once all of it is rendered, as a plain tree, without the vacant places at the ends of its lists, of
 /// which fibers do not tell; and beside it the tree before and this one without lists of children that were taken over, and
-/// without children that stay as they are, where all of a list stand in place. The nodes of these are those of the tree
-/// before, which is given: they are not read again, so that the time is in proportion to the fibers that were made and to the
-/// lists that they stand in.
+/// without children that stay as they are, where all of a list stand in place. An instance that stays, was not rendered anew
+/// and has no effects is left out too where it is an only child over an only child: a commit has nothing to do for it. The
+/// nodes of these are those of the tree before, which is given: they are not read again, so that the time is in proportion to
+/// the fibers that were made and to the lists that they stand in.
 ///
 /// # Errors
 ///
