@@ -12,7 +12,7 @@ use Rattle.rx_step.specs.declared.step.Step.TheVariants as step
 use Rattle.rx_script.specs.declared.form.Form.{Form}
 use Rattle.rx_step.specs.Steps.{Path}
 use Rattle.rx_script.specs.Lines.{form_of, meant, formed, bad, good, bad_line, unknown_target, out_of_range, has_targets, in_bounds, is_integer, path_in_bounds, step_limit, target_from, target_of, hook_at, is_state, is_reducer, is_flag, is_updater}
-use Rattle.rx_script.specs.Readings.{held_path, held_step, reading, form_in_bounds}
+use Rattle.rx_script.specs.Readings.{held_path, held_step, reading, form_in_bounds, target_in}
 use Rattle.rx_script.proofs.Bounds.{zero-fits, fits-held, limit-held, one-held, path-held, held-small, held-path-small, held_value-small, both-true}
 
 -- The targets of a step are those of the step with held numbers.
@@ -27,7 +27,7 @@ target_from-held p c ((name, k) ∷ path) =
     by-next (λ d. target_from p d (held_path path)) (λ d. target_from p d path) (position (bytes_eq name) (component_names p))
     (λ d. target_from-held p d path)
 
-target-held : (p : Program) (path : Path) → target_of p (held_path path) ≡ target_of p path
+pub target-held : (p : Program) (path : Path) → target_of p (held_path path) ≡ target_of p path
 target-held p [] = refl
 target-held p ((name, k) ∷ path) =
     ap (λ o. cond (bytes_eq name root_name) o None)
@@ -53,13 +53,29 @@ targets-held p step.Event = refl
 targets-held p step.State = refl
 targets-held p step.Tree = refl
 
+target-step : (p : Program) (s : Step) → target_in p (held_step s) ≡ target_in p s
+target-step p (step.Dispatch (Set lane path name x)) = target-held p path
+target-step p (step.Dispatch (Call lane path name f x)) = target-held p path
+target-step p (step.Dispatch (Send lane path name x)) = target-held p path
+target-step p (step.Dispatch (Start lane path name)) = target-held p path
+target-step p (step.Dispatch (Refresh lane name)) = refl
+target-step p (step.Resolve name x) = refl
+target-step p (step.Tick n) = refl
+target-step p (step.Work n) = refl
+target-step p step.Flush = refl
+target-step p step.FlushSync = refl
+target-step p step.Passive = refl
+target-step p step.Event = refl
+target-step p step.State = refl
+target-step p step.Tree = refl
+
 -- What was read is in bounds if the step is.
 
 and_true : (a : Bool) → (a && true) ≡ a
 and_true true = refl
 and_true false = refl
 
-bounds-held : (p : Program) (s : Step) → form_in_bounds p (reading s) ≡ in_bounds p s
+bounds-held : (p : Program) (s : Step) → form_in_bounds p (reading p s) ≡ in_bounds p s
 bounds-held p (step.Dispatch (Set lane path name x)) = rw (fits-held p x, path-held p path) refl
 bounds-held p (step.Dispatch (Call lane path name f x)) = rw (fits-held p x, path-held p path) refl
 bounds-held p (step.Dispatch (Send lane path name x)) = rw (fits-held p x, path-held p path) refl
@@ -120,41 +136,46 @@ meant-words : (p : Program) (ws : List (Bor Text)) → 0 < length ws → meant p
 meant-words p [] some = absurd (omega arith)
 meant-words p (w ∷ ws) some = refl
 
-pub words-no_form : (p : Program) (ws : List (Bor Text)) → 0 < length ws → None ≡ option_map reading (form_of (texts ws)) → meant p (texts ws) ≡ bad bad_line
+pub words-no_form : (p : Program) (ws : List (Bor Text)) → 0 < length ws → None ≡ option_map (reading p) (form_of (texts ws)) → meant p (texts ws) ≡ bad bad_line
 words-no_form p ws some is = meant-words p ws some ∙ by_form (form_of (texts ws)) is where
-  by_form : (o : Option Step) → None ≡ option_map reading o → formed p o ≡ bad bad_line
+  by_form : (o : Option Step) → None ≡ option_map (reading p) o → formed p o ≡ bad bad_line
   by_form None e = refl
   by_form (Some s) e = cc
 
-targets-of : (p : Program) (s : Step) (f : Form) → Some f ≡ option_map reading (Some s) → has_targets p f.step ≡ has_targets p s
-targets-of p s f is = let same : f ≡ reading s = cc in rw same (targets-held p s)
+targets-of : (p : Program) (s : Step) (f : Form) → Some f ≡ option_map (reading p) (Some s) → has_targets p f.step ≡ has_targets p s
+targets-of p s f is = let same : f ≡ reading p s = cc in rw same (targets-held p s)
 
-bounds-of : (p : Program) (s : Step) (f : Form) → Some f ≡ option_map reading (Some s) → form_in_bounds p f ≡ in_bounds p s
-bounds-of p s f is = let same : f ≡ reading s = cc in rw same (bounds-held p s)
+-- the component of a form is the one that the path of its step ends at
+pub form-target : (p : Program) (o : Option Step) (f : Form) → Some f ≡ option_map (reading p) o → f.target ≡ target_in p f.step
+form-target p None f is = cc
+form-target p (Some s) f is = let same : f ≡ reading p s = cc in rw same (sym (target-step p s))
 
-pub words-no_target : (p : Program) (ws : List (Bor Text)) (f : Form) → 0 < length ws → Some f ≡ option_map reading (form_of (texts ws))
+bounds-of : (p : Program) (s : Step) (f : Form) → Some f ≡ option_map (reading p) (Some s) → form_in_bounds p f ≡ in_bounds p s
+bounds-of p s f is = let same : f ≡ reading p s = cc in rw same (bounds-held p s)
+
+pub words-no_target : (p : Program) (ws : List (Bor Text)) (f : Form) → 0 < length ws → Some f ≡ option_map (reading p) (form_of (texts ws))
     → has_targets p f.step ≡ false → meant p (texts ws) ≡ bad unknown_target
 words-no_target p ws f some is targets = meant-words p ws some ∙ by_form (form_of (texts ws)) is where
-  by_form : (o : Option Step) → Some f ≡ option_map reading o → formed p o ≡ bad unknown_target
+  by_form : (o : Option Step) → Some f ≡ option_map (reading p) o → formed p o ≡ bad unknown_target
   by_form None e = cc
   by_form (Some s) e = let no : has_targets p s ≡ false = sym (targets-of p s f e) ∙ targets in rw no refl
 
-pub words-out : (p : Program) (ws : List (Bor Text)) (f : Form) → 0 < length ws → Some f ≡ option_map reading (form_of (texts ws))
+pub words-out : (p : Program) (ws : List (Bor Text)) (f : Form) → 0 < length ws → Some f ≡ option_map (reading p) (form_of (texts ws))
     → has_targets p f.step ≡ true → form_in_bounds p f ≡ false → meant p (texts ws) ≡ bad out_of_range
 words-out p ws f some is targets bounds = meant-words p ws some ∙ by_form (form_of (texts ws)) is where
-  by_form : (o : Option Step) → Some f ≡ option_map reading o → formed p o ≡ bad out_of_range
+  by_form : (o : Option Step) → Some f ≡ option_map (reading p) o → formed p o ≡ bad out_of_range
   by_form None e = cc
   by_form (Some s) e =
       let there : has_targets p s ≡ true = sym (targets-of p s f e) ∙ targets in
       let out : in_bounds p s ≡ false = sym (bounds-of p s f e) ∙ bounds in rw (there, out) refl
 
-pub words-step : (p : Program) (ws : List (Bor Text)) (f : Form) → 0 < length ws → Some f ≡ option_map reading (form_of (texts ws))
+pub words-step : (p : Program) (ws : List (Bor Text)) (f : Form) → 0 < length ws → Some f ≡ option_map (reading p) (form_of (texts ws))
     → has_targets p f.step ≡ true → form_in_bounds p f ≡ true → meant p (texts ws) ≡ good f.step
 words-step p ws f some is targets bounds = meant-words p ws some ∙ by_form (form_of (texts ws)) is where
-  by_form : (o : Option Step) → Some f ≡ option_map reading o → formed p o ≡ good f.step
+  by_form : (o : Option Step) → Some f ≡ option_map (reading p) o → formed p o ≡ good f.step
   by_form None e = cc
   by_form (Some s) e =
       let there : has_targets p s ≡ true = sym (targets-of p s f e) ∙ targets in
       let within : in_bounds p s ≡ true = sym (bounds-of p s f e) ∙ bounds in
-      let same : f ≡ reading s = cc in
+      let same : f ≡ reading p s = cc in
       let step_is : s ≡ f.step = sym (ap (λ (g : Form). g.step) same ∙ step-held p s within) in rw (there, within) (ap good step_is)

@@ -5,5 +5,6 @@ pub mod Forms
 pub mod NumberLaws
 pub mod Paths
 pub mod Scripts
+pub mod Spots
 pub mod WordLemmas
 pub mod Marked

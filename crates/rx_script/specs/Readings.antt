@@ -9,6 +9,7 @@ use Rattle.rx_step.specs.declared.step.Step.{Step}
 use Rattle.rx_step.specs.declared.step.Step.TheVariants as step
 use Rattle.rx_script.specs.declared.form.Form.{Form}
 use Rattle.rx_script.specs.declared.form.Place.{Place}
+use Rattle.rx_script.specs.declared.path_reader.Spot.{Spot}
 use Rattle.rx_step.specs.declared.step.LaneWord.{LaneWord}
 use Rattle.rx_script.specs.declared.script.ScriptError.{ScriptError}
 use Rattle.rx_script.specs.declared.script.ScriptError.TheVariants.{BadLine, UnknownTarget, OutOfRange, OutOfMemory}
@@ -16,7 +17,7 @@ use Rattle.rx_script.specs.declared.line.LineError.{LineError}
 use Rattle.rx_script.specs.declared.line.LineError.TheVariants as line
 use Rattle.rx_step.specs.Steps.{Path, path_of}
 use Rattle.rx_script.specs.Words.{lower_of, natural_of, opposite, upper_of}
-use Rattle.rx_script.specs.Lines.{◌◂◌, lane_of, path_of as written_path, operand, is_integer, path_in_bounds, step_limit, bad_line, unknown_target, out_of_range, Line, silent, good, bad, BadStep}
+use Rattle.rx_script.specs.Lines.{◌◂◌, lane_of, path_of as written_path, operand, is_integer, path_in_bounds, target_of, step_limit, bad_line, unknown_target, out_of_range, Line, silent, good, bad, BadStep}
 
 -- numbers that are read are held here, above every bound of a script
 abbrev pub held_at : ℕ
@@ -85,31 +86,60 @@ operand_of step.Event = pos 0
 operand_of step.State = pos 0
 operand_of step.Tree = pos 0
 
+-- the component that the path of a step ends at, if it has a path
+abbrev pub target_in : Program → Step → Option ℕ
+target_in p (step.Dispatch d) = target_of p (path_of d)
+target_in p (step.Resolve name x) = None
+target_in p (step.Tick n) = None
+target_in p (step.Work n) = None
+target_in p step.Flush = None
+target_in p step.FlushSync = None
+target_in p step.Passive = None
+target_in p step.Event = None
+target_in p step.State = None
+target_in p step.Tree = None
+
 -- what is read of a line that has the form of a step
-abbrev pub reading : Step → Form
-reading s = record { step = held_step s; value = held_integer (operand_of s) }
+abbrev pub reading : Program → Step → Form
+reading p s = record { step = held_step s; value = held_integer (operand_of s); target = target_in p s }
+
+-- what is read of a path: it with held numbers, and the component that it ends at
+abbrev pub spot_at : Program → Path → Spot
+spot_at p path = record { path = held_path path; target = target_of p path }
+
+-- what is read of the word of a path
+abbrev pub spot_of : Program → Text → Option Spot
+spot_of p word = option_map (λ path. spot_at p path) (written_path word)
+
+-- the component that the path of a word ends at
+abbrev pub target_at : Program → Text → Option ℕ
+target_at p word = option_and_then (λ spot. spot.target) (spot_of p word)
+
+-- a path is what is read of this word
+abbrev pub IsRead : Text → Path → Type 0
+IsRead word path = Some path ≡ option_map held_path (written_path word)
 
 -- what the words of a dispatch name: a lane, an instance and a hook
-abbrev pub place_of : (lane path hook : Text) → Option Place
-place_of l p h = Some (λ lane path name. record { lane = lane; path = held_path path; hook = name }) ◂ lane_of l ◂ written_path p ◂ lower_of h
+abbrev pub place_of : Program → (lane path hook : Text) → Option Place
+place_of p l w h = Some (λ lane path name. record { lane = lane; spot = spot_at p path; hook = name }) ◂ lane_of l ◂ written_path w ◂ lower_of h
 
 -- a dispatch of a value at this place, if its word is one
 abbrev pub at_place : Option (LaneWord → Path → Name → ℤ → Step) → Place → ℤ → Option Step
-at_place form place x = option_map (λ make. make place.lane place.path place.hook x) form
+at_place form place x = option_map (λ make. make place.lane place.spot.path place.hook x) form
 
 -- a dispatch of a function at this place, if its word is one
 abbrev pub call_at_place : Option (LaneWord → Path → Name → Name → ℤ → Step) → Place → Name → ℤ → Option Step
-call_at_place form place f x = option_map (λ make. make place.lane place.path place.hook f x) form
+call_at_place form place f x = option_map (λ make. make place.lane place.spot.path place.hook f x) form
 
--- a step beside its number with a sign
-abbrev pub with_value : Option Step → ℤ → Option Form
-with_value s v = option_map (λ step. record { step = step; value = v }) s
+-- a step at this place, beside its number with a sign
+abbrev pub with_value : Place → Option Step → ℤ → Option Form
+with_value place s v = option_map (λ step. record { step = step; value = v; target = place.spot.target }) s
 
 -- what is read of a dispatch of a value, from its parts
 abbrev pub value_reading : Option (LaneWord → Path → Name → ℤ → Step) → Option Place → Option ℤ → Option Form
 value_reading form None x = None
 value_reading form (Some place) None = None
-value_reading form (Some place) (Some x) = with_value (at_place form place (held_value x)) (held_integer x)
+value_reading form (Some place) (Some x) = with_value place (at_place form place (held_value x)) (held_integer x)
 
 -- what is read of a dispatch of a function, from its parts
 abbrev pub call_reading : Option (LaneWord → Path → Name → Name → ℤ → Step) → Option Place → Option Name → Option ℤ → Option Form
@@ -117,7 +147,7 @@ call_reading form None f x = None
 call_reading form (Some place) None x = None
 call_reading form (Some place) (Some f) None = None
 call_reading form (Some place) (Some f) (Some x) =
-    with_value (call_at_place form place f (held_value x)) (held_integer x)
+    with_value place (call_at_place form place f (held_value x)) (held_integer x)
 
 -- all numbers of a step but the one with a sign are in their bounds
 abbrev pub counts_in_bounds : Program → Step → Bool

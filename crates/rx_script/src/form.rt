@@ -1,17 +1,19 @@
 // The forms of lines.
-ghost use Rattle.std.specs.Prelude.{◌≡◌, [], ◌∷◌, map, option_map, IfOk};
+ghost use Rattle.std.specs.Prelude.{◌≡◌, [], ◌∷◌, None, map, option_map, pos, IfOk};
 ghost use Rattle.std.specs.Int.{w64};
 ghost use Rattle.rx_base.specs.Values.{wrap};
+ghost use Rattle.rx_ast.specs.Syntax.{Program};
 ghost use Rattle.rx_base.specs.Widths.{fits_width as is_of_width, width_of};
 ghost use Rattle.rx_script.specs.Lines.{◌◂◌, call_form, form_of, is_integer as is_one_of_integers, lane_of, number_form as number_form_of, plain_form as plain_form_of, refresh_form, resolve_form, start_lane_of, value_form};
 ghost use Rattle.rx_script.specs.Readings.{at_place, call_at_place, call_reading, counts_in_bounds, form_in_bounds, place_of, reading, value_reading};
 ghost use Rattle.rx_script.specs.Words.{integer_of, natural_of, resource_of};
 
-use crate::path::{is_path_in_bounds, read_path};
+use crate::path::is_path_in_bounds;
+use crate::path_reader::{PathReader, Spot};
 use crate::words::{integer, lower, natural, resource};
 use rx_base::{Int, Name, Width};
 use rx_check::Checked;
-use rx_step::{Dispatch, LaneWord, Path, StartWord, Step};
+use rx_step::{Dispatch, LaneWord, StartWord, Step};
 use std::alloc::{AllocError, Global};
 
 /// A step whose names may name nothing and whose numbers may be out of their bounds.
@@ -21,6 +23,8 @@ pub(crate) struct Form {
     pub(crate) step: Step,
     /// Its number with a sign, 0 if it has none.
     pub(crate) value: i128,
+    /// The component that its path ends at, if it has a path.
+    pub(crate) target: Option<u32>,
 }
 
 /// The lane of a word.
@@ -74,16 +78,27 @@ fn plain_step(word: &[u8]) -> Option<Step>
     }
 }
 
+/// What is read of a line whose step has no path and no number with a sign.
+fn bare(step: Step) -> Form
+    ensures { result ≡ record { step = step; value = pos 0; target = None } }
+{
+    Form {
+        step,
+        value: 0,
+        target: None,
+    }
+}
+
 /// The form of a line of one word.
 fn plain_form(word: &[u8]) -> Option<Form>
-    ensures { result ≡ option_map reading (plain_form_of word.now) }
+    ensures { (p : Program) → result ≡ option_map (reading p) (plain_form_of word.now) }
 {
-    plain_step(word).map(|step| Form { step, value: 0 })
+    plain_step(word).map(|step| bare(step))
 }
 
 /// The form of a line of a word and a number.
 fn number_form(word: &[u8], number: &[u8]) -> Option<Form>
-    ensures { result ≡ option_map reading (number_form_of word.now ◂ natural_of number.now) }
+    ensures { (p : Program) → result ≡ option_map (reading p) (number_form_of word.now ◂ natural_of number.now) }
 {
     let number = natural(number)?;
     let step = if word == b"tick".as_slice() {
@@ -93,7 +108,7 @@ fn number_form(word: &[u8], number: &[u8]) -> Option<Form>
     } else {
         return None;
     };
-    Some(Form { step, value: 0 })
+    Some(bare(step))
 }
 
 /// The integer of 64 bits for a number, the same if it is one.
@@ -111,7 +126,7 @@ fn resolve_line(
     name: &[u8],
     value: &[u8],
 ) -> Result<Option<Form>, AllocError>
-    ensures { IfOk result (λ f. f ≡ option_map reading (resolve_form word.now ◂ resource_of name.now ◂ integer_of value.now)) }
+    ensures { IfOk result (λ f. (p : Program) → f ≡ option_map (reading p) (resolve_form word.now ◂ resource_of name.now ◂ integer_of value.now)) }
 {
     if word != b"resolve".as_slice() {
         return Ok(None);
@@ -123,7 +138,11 @@ fn resolve_line(
         return Ok(None);
     };
     let step = Step::Resolve(name, held(value));
-    Ok(Some(Form { step, value }))
+    Ok(Some(Form {
+        step,
+        value,
+        target: None,
+    }))
 }
 
 /// The form of a line that asks for another version of a resource.
@@ -133,7 +152,7 @@ fn refresh_line(
     lane_word: &[u8],
     name: &[u8],
 ) -> Result<Option<Form>, AllocError>
-    ensures { IfOk result (λ f. f ≡ option_map reading (refresh_form word.now ◂ lane_of lane_word.now ◂ resource_of name.now)) }
+    ensures { IfOk result (λ f. (p : Program) → f ≡ option_map (reading p) (refresh_form word.now ◂ lane_of lane_word.now ◂ resource_of name.now)) }
 {
     if word != b"refresh".as_slice() {
         return Ok(None);
@@ -144,8 +163,7 @@ fn refresh_line(
     let Some(name) = resource(alloc, name)? else {
         return Ok(None);
     };
-    let step = Step::Dispatch(Dispatch::Refresh(lane, name));
-    Ok(Some(Form { step, value: 0 }))
+    Ok(Some(bare(Step::Dispatch(Dispatch::Refresh(lane, name)))))
 }
 
 /// The form of a line of three words.
@@ -155,7 +173,7 @@ fn three_words(
     second: &[u8],
     third: &[u8],
 ) -> Result<Option<Form>, AllocError>
-    ensures { IfOk result (λ f. f ≡ option_map reading (form_of (word.now ∷ second.now ∷ third.now ∷ []))) }
+    ensures { IfOk result (λ f. (p : Program) → f ≡ option_map (reading p) (form_of (word.now ∷ second.now ∷ third.now ∷ []))) }
 {
     match resolve_line(alloc, word, second, third)? {
         Some(form) => Ok(Some(form)),
@@ -164,14 +182,16 @@ fn three_words(
 }
 
 /// The form of a line that starts a transition.
-fn start_line(
+fn start_line<'a>(
     alloc: Global,
+    paths: &mut PathReader<'a>,
     word: &[u8],
     lane_word: &[u8],
-    path: &[u8],
+    path: &'a [u8],
     hook: &[u8],
 ) -> Result<Option<Form>, AllocError>
-    ensures { IfOk result (λ f. f ≡ option_map reading (form_of (word.now ∷ lane_word.now ∷ path.now ∷ hook.now ∷ []))) }
+    ensures read { IfOk result (λ f. f ≡ option_map (reading paths.old) (form_of (word.now ∷ lane_word.now ∷ path.now ∷ hook.now ∷ []))) }
+    ensures same { paths.new ≡ paths.old }
 {
     if word != b"start".as_slice() {
         return Ok(None);
@@ -179,43 +199,48 @@ fn start_line(
     let Some(lane) = start_lane(lane_word) else {
         return Ok(None);
     };
-    let Some(path) = read_path(alloc, path)? else {
+    let Some(spot) = paths.read(alloc, path)? else {
         return Ok(None);
     };
     let Some(hook) = lower(alloc, hook)? else {
         return Ok(None);
     };
-    let step = Step::Dispatch(Dispatch::Start(lane, path, hook));
-    Ok(Some(Form { step, value: 0 }))
+    Ok(Some(Form {
+        step: Step::Dispatch(Dispatch::Start(lane, spot.path, hook)),
+        value: 0,
+        target: spot.target,
+    }))
 }
 
 /// The lane, the instance and the hook that a dispatch names.
 #[derive(Drop)]
 struct Place {
     lane: LaneWord,
-    path: Path,
+    spot: Spot,
     hook: Name,
 }
 
 /// What a dispatch names, from its words, with the numbers of its path held.
-fn read_place(
+fn read_place<'a>(
     alloc: Global,
+    paths: &mut PathReader<'a>,
     lane_word: &[u8],
-    path: &[u8],
+    path: &'a [u8],
     hook: &[u8],
 ) -> Result<Option<Place>, AllocError>
-    ensures { IfOk result (λ place. place ≡ place_of lane_word.now path.now hook.now) }
+    ensures read { IfOk result (λ place. place ≡ place_of paths.old lane_word.now path.now hook.now) }
+    ensures same { paths.new ≡ paths.old }
 {
     let Some(lane) = lane(lane_word) else {
         return Ok(None);
     };
-    let Some(path) = read_path(alloc, path)? else {
+    let Some(spot) = paths.read(alloc, path)? else {
         return Ok(None);
     };
     let Some(hook) = lower(alloc, hook)? else {
         return Ok(None);
     };
-    Ok(Some(Place { lane, path, hook }))
+    Ok(Some(Place { lane, spot, hook }))
 }
 
 /// The dispatch of a value or an action that a word stands for.
@@ -223,9 +248,9 @@ fn value_dispatch(word: &[u8], place: Place, value: Int) -> Option<Dispatch>
     ensures { option_map Step.Dispatch result ≡ at_place (value_form word.now) place value }
 {
     if word == b"set".as_slice() {
-        Some(Dispatch::Set(place.lane, place.path, place.hook, value))
+        Some(Dispatch::Set(place.lane, place.spot.path, place.hook, value))
     } else if word == b"send".as_slice() {
-        Some(Dispatch::Send(place.lane, place.path, place.hook, value))
+        Some(Dispatch::Send(place.lane, place.spot.path, place.hook, value))
     } else {
         None
     }
@@ -237,10 +262,12 @@ fn value_line(word: &[u8], place: Option<Place>, value: &[u8]) -> Option<Form>
 {
     let place = place?;
     let value = integer(value)?;
+    let target = place.spot.target;
     let dispatch = value_dispatch(word, place, held(value))?;
     Some(Form {
         step: Step::Dispatch(dispatch),
         value,
+        target,
     })
 }
 
@@ -249,7 +276,7 @@ fn call_dispatch(word: &[u8], place: Place, function: Name, value: Int) -> Optio
     ensures { option_map Step.Dispatch result ≡ call_at_place (call_form word.now) place function value }
 {
     if word == b"call".as_slice() {
-        Some(Dispatch::Call(place.lane, place.path, place.hook, function, value))
+        Some(Dispatch::Call(place.lane, place.spot.path, place.hook, function, value))
     } else {
         None
     }
@@ -267,29 +294,36 @@ fn call_line(
     let place = place?;
     let function = function?;
     let value = integer(value)?;
+    let target = place.spot.target;
     let dispatch = call_dispatch(word, place, function, held(value))?;
     Some(Form {
         step: Step::Dispatch(dispatch),
         value,
+        target,
     })
 }
 
 /// The form that words have.
-pub(crate) fn read_form(alloc: Global, words: &[&[u8]]) -> Result<Option<Form>, AllocError>
-    ensures { IfOk result (λ f. f ≡ option_map reading (form_of (map (λ w. w.now) words.now))) }
+pub(crate) fn read_form<'a>(
+    alloc: Global,
+    paths: &mut PathReader<'a>,
+    words: &[&'a [u8]],
+) -> Result<Option<Form>, AllocError>
+    ensures read { IfOk result (λ f. f ≡ option_map (reading paths.old) (form_of (map (λ w. w.now) words.now))) }
+    ensures same { paths.new ≡ paths.old }
 {
     match words {
         [] => Ok(None),
         [word] => Ok(plain_form(word)),
         [word, number] => Ok(number_form(word, number)),
         [word, second, third] => three_words(alloc, word, second, third),
-        [word, lane, path, hook] => start_line(alloc, word, lane, path, hook),
+        [word, lane, path, hook] => start_line(alloc, paths, word, lane, path, hook),
         [word, lane, path, hook, value] => {
-            let place = read_place(alloc, lane, path, hook)?;
+            let place = read_place(alloc, paths, lane, path, hook)?;
             Ok(value_line(word, place, value))
         }
         [word, lane, path, hook, function, value] => {
-            let place = read_place(alloc, lane, path, hook)?;
+            let place = read_place(alloc, paths, lane, path, hook)?;
             Ok(call_line(word, place, lower(alloc, function)?, value))
         }
         _ => Ok(None),

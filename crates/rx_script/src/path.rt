@@ -111,6 +111,26 @@ pub(crate) fn read_path(alloc: Global, word: &[u8]) -> Result<Option<Path>, Allo
     }
 }
 
+/// The same parts of a path once more.
+fn copy_parts(alloc: Global, parts: &[(Name, u64)]) -> Result<Vec<(Name, u64)>, AllocError>
+    ensures { IfOk result (λ copies. copies.items ≡ parts.now) }
+{
+    let mut copies = Vec::with_capacity(alloc, parts.len())?;
+    for part in parts {
+        let name = Name::new(alloc, part.0.text())?;
+        copies.push_reserved((name, part.1));
+    }
+    Ok(copies)
+}
+
+/// The same path once more.
+pub(crate) fn copy_path(alloc: Global, path: &Path) -> Result<Path, AllocError>
+    ensures { IfOk result (λ copy. copy ≡ path.now) }
+{
+    let parts = copy_parts(alloc, path.parts.as_slice())?;
+    Ok(Path { parts })
+}
+
 /// The greatest number of an instance in a path.
 fn greatest_place(checked: &Checked) -> u64
     ensures { result ≡ instance_limit checked.now }

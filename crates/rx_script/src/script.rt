@@ -6,6 +6,7 @@ ghost use Rattle.rx_script.specs.Readings.{IsErrorAt, Refuses, found_steps};
 
 use crate::input::{first_piece, without_return};
 use crate::line::{LineError, read_line};
+use crate::path_reader::PathReader;
 use rx_check::Checked;
 use rx_step::Step;
 use std::alloc::{AllocFailed, Global};
@@ -77,17 +78,22 @@ fn error_at(line: u64, error: LineError) -> ScriptError
 ///
 /// Exactly if some other line is no step of the program, the first such line, counted from 1, and why it is none:
 /// `BadLine` before `UnknownTarget` before `OutOfRange`; and `OutOfMemory` if out of memory.
-pub fn read_script(alloc: Global, checked: &Checked, text: &[u8]) -> Result<Vec<Step>, ScriptError>
+pub fn read_script<'a>(
+    alloc: Global,
+    checked: &'a Checked,
+    text: &'a [u8],
+) -> Result<Vec<Step>, ScriptError>
     requires { length text.now < 2 ^ 32 }
     ensures read { MatchResult result (λ steps. steps_of checked.now text.now ≡ Ok steps.items) (λ e. Refuses e (steps_of checked.now text.now)) }
     ensures few { IfOk result (λ steps. length steps.items < 2 ^ 32) }
 {
     let mut steps = Vec::new(alloc);
+    let mut paths = PathReader::new(checked);
     let mut rest = text;
     let mut number: u64 = 1;
     'lines: while !rest.is_empty() {
         let (line, after) = first_line(rest);
-        let found = match read_line(alloc, checked, line) {
+        let found = match read_line(alloc, &mut paths, line) {
             Ok(found) => found,
             Err(error) => return Err(error_at(number, error)),
         };
