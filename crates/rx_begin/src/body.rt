@@ -138,8 +138,8 @@ fn body_at<L: Ledger>(
     )
 }
 
-// What an instance keeps of a render, shared with its next one. Most have nothing of a kind, before and after: then what was kept
-// before is handed on.
+// What an instance has read in a render, shared with its next one. Most read nothing of a kind, before and after: then what was
+// kept before is handed on. (Effects are kept anew: by their handle a commit knows whether an instance was rendered anew.)
 fn shared<T: Drop>(alloc: Global, kept: Vec<T>, before: Rc<Vec<T>>) -> Result<Rc<Vec<T>>, AllocError>
     ensures { IfOk result (λ r. r.value.items ≡ kept.items) }
 {
@@ -168,7 +168,7 @@ fn instance_after(
             initials: old.initials,
             reads: shared(alloc, reads, old.reads)?,
             versions: shared(alloc, versions, old.versions)?,
-            effects: shared(alloc, effects, old.effects)?,
+            effects: Rc::new(alloc, effects)?,
         }),
         None => Ok(Instance {
             number: None,
