@@ -11,7 +11,7 @@ ghost use Rattle.rx_children.specs.Nodes.{IsBareBeside};
 
 use rx_elem::Element;
 use rx_fiber::{Fiber, Origin, Stage, old_children};
-use rx_keys::match_children;
+use rx_keys::places_of;
 use rx_links::{FiberId, FiberTree};
 use std::alloc::{AllocError, Global};
 
@@ -63,8 +63,8 @@ fn match_fibers(
     let known = old_children(alloc, tree, first_old)?;
     count_places(known.elements.len())?;
     count_places(elements.len())?;
-    let matching = match_children(alloc, &known.elements, elements)?;
-    fibers_at(alloc, &known.fibers, &matching.places)
+    let places = places_of(alloc, &known.elements, elements)?;
+    fibers_at(alloc, &known.fibers, &places)
 }
 
 // Makes the fiber of one child in front of those that are made, of which so much is known; `null` has none.
