@@ -10,7 +10,7 @@ use Rattle.rx_fiber.specs.declared.stage.Origin.{Origin}
 use Rattle.rx_fiber.specs.Fibers.{Fiber}
 use Rattle.rx_fiber.specs.OldLists.{is_fallback, filled, old_elements, old_fibers}
 use Rattle.rx_fiber.proofs.OldPlaces.{list_here}
-use Rattle.rx_children.specs.Children.{AreMade, no_more, gap, next, HasAdded, none, one, HasMadeFrom, element_or_null}
+use Rattle.rx_children.specs.Children.{AreMade, no_more, gap, next, HasAdded, none, one, HasMadeFrom, IsAlone, element_or_null}
 use Rattle.rx_children.specs.Nodes.{IsBareBeside}
 use Rattle.rx_children.proofs.Cloning.{list_elements}
 use Rattle.rx_children.proofs.Making.{KnowsPlaces, none_yet}
@@ -34,18 +34,23 @@ from_start c origin n os d are =
 
 -- The list
 
-module _ (origin : Origin) (t : Trees Fiber) (p id : ℕ) (linked : IsLinked t.current) (held : Holds t.current id) (alone : first (rest_of t.current id) ≡ None) (v : Fiber) (value : Some v ≡ value_of t.current id) where
-  list_is : list_from t.current (Some id) ≡ fiber id v (kids_of t.current id) shapes.none
-  list_is = list_here t.current linked id held v value ∙ ap (λ s. fiber id v (kids_of t.current id) s) (no_rest (rest_of t.current id) alone)
+module _ (c : Shape Fiber) (id : ℕ) (linked : IsLinked c) (held : Holds c id) (alone : first (rest_of c id) ≡ None) (v : Fiber) (value : Some v ≡ value_of c id) where
+  list_is : list_from c (Some id) ≡ fiber id v (kids_of c id) shapes.none
+  list_is = list_here c linked id held v value ∙ ap (λ s. fiber id v (kids_of c id) s) (no_rest (rest_of c id) alone)
 
-  told_none : is_fallback v.stage ≡ true → old_fibers (list_from t.current (Some id)) ≡ []
+  told_none : is_fallback v.stage ≡ true → old_fibers (list_from c (Some id)) ≡ []
   told_none f = rw (list_is, f) refl
 
-  told_one : is_fallback v.stage ≡ false → old_fibers (list_from t.current (Some id)) ≡ filled v.place None ++ Some id ∷ []
+  told_one : is_fallback v.stage ≡ false → old_fibers (list_from c (Some id)) ≡ filled v.place None ++ Some id ∷ []
   told_one f =
       let e : v.place - 0 ≡ v.place = omega arith in
       rw (list_is, f) (ap (λ m. filled m None ++ Some id ∷ []) e)
 
+  -- at the first place it is all that its list has
+  pub stands_alone : is_fallback v.stage ≡ false → v.place ≡ 0 → IsAlone c (Some id)
+  stands_alone f place = told_one f ∙ ap (λ m. filled m None ++ Some id ∷ []) place
+
+module _ (origin : Origin) (t : Trees Fiber) (p id : ℕ) (linked : IsLinked t.current) (held : Holds t.current id) (alone : first (rest_of t.current id) ≡ None) (v : Fiber) (value : Some v ≡ value_of t.current id) where
   -- what is made for its fibers is made for its elements
   for_elements : (u : Trees Fiber) (os : List (Option ℕ)) → os ≡ old_fibers (list_from t.current (Some id)) → HasMadeFrom origin 0 t u p (map (element_or_null t.current) os) os
       → HasMadeFrom origin 0 t u p (old_elements (list_from t.current (Some id))) (old_fibers (list_from t.current (Some id)))
@@ -55,7 +60,7 @@ module _ (origin : Origin) (t : Trees Fiber) (p id : ℕ) (linked : IsLinked t.c
 
   -- no clone is made of the fiber of a fallback
   pub none_alone : is_fallback v.stage ≡ true → HasMadeFrom origin 0 t t p (old_elements (list_from t.current (Some id))) (old_fibers (list_from t.current (Some id)))
-  none_alone f = for_elements t [] (sym (told_none f)) (none_yet origin t p 0 [] [] refl refl)
+  none_alone f = for_elements t [] (sym (told_none t.current id linked held alone v value f)) (none_yet origin t p 0 [] [] refl refl)
 
 -- The clone
 
@@ -82,7 +87,7 @@ module _ (origin : Origin) (t u : Trees Fiber) (p id n : ℕ) (knows : KnowsPlac
       → HasMadeFrom origin 0 t u p (old_elements (list_from t.current (Some id))) (old_fibers (list_from t.current (Some id)))
   one_alone linked held alone v value f place added =
       for_elements origin t p id linked held alone v value u (filled n None ++ Some id ∷ [])
-      (ap (λ m. filled m None ++ Some id ∷ []) place ∙ sym (told_one origin t p id linked held alone v value f)) (clone_made added)
+      (ap (λ m. filled m None ++ Some id ∷ []) place ∙ sym (told_one t.current id linked held alone v value f)) (clone_made added)
 
 -- Its place
 

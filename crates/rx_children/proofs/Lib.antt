@@ -5,6 +5,7 @@ pub mod Matched
 pub mod Waiting
 pub mod Cloning
 pub mod Alone
+pub mod Only
 pub mod Nodes
 pub mod Nexts
 pub mod OldNodes

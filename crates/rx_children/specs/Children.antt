@@ -7,9 +7,10 @@ use Rattle.rx_lists.specs.Shapes.{Shape, IsTop}
 use Rattle.rx_lists.specs.Shapes as shapes
 use Rattle.rx_links.specs.Drafts.{Draft, taken, made, Trees, grown, kids_under}
 use Rattle.rx_links.specs.Places.{Around, placed}
-use Rattle.rx_links.specs.Readers.{value_of}
+use Rattle.rx_links.specs.Readers.{list_from, value_of}
 use Rattle.rx_meaning.specs.Cursor.{is_null}
 use Rattle.rx_fiber.specs.Fibers.{Fiber, waiting}
+use Rattle.rx_fiber.specs.OldLists.{old_fibers}
 use Rattle.rx_fiber.specs.declared.stage.Origin.{Origin}
 use Rattle.rx_fiber.specs.Surround.{IsElementOf}
 
@@ -31,6 +32,10 @@ pub data AreMade (current : Shape Fiber) (origin : Origin) : (place : ℕ) → L
 -- the element of a current fiber, and null where there is none
 abbrev pub element_or_null : Shape Fiber → Option ℕ → Element
 element_or_null current o = option_map_or (λ v. v.element) (option_and_then (value_of current) o) elements.null
+
+-- a current list has no place but the first: there its first fiber stands, if it has one
+abbrev pub IsAlone : Shape Fiber → (first : Option ℕ) → Type 0
+IsAlone current first = old_fibers (list_from current first) ≡ option_map_or (λ id. Some id ∷ []) first []
 
 -- no two of a list are the same
 abbrev pub AreApart : List (Option ℕ) → Type 0

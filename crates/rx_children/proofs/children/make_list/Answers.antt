@@ -1,7 +1,7 @@
 use Rattle.std.proofs.Common.{◌∙◌, ap, length}
 use Rattle.rx_links.specs.Readers.{list_from}
 use Rattle.rx_children.proofs.Matched.{matched_length, room_for}
-use Rattle.rx_children.proofs.children.make_children.Goals as goal
+use Rattle.rx_children.proofs.children.make_list.Goals as goal
 
 pub make_all-requires-clause-room : goal.make_all-requires-clause-room
 make_all-requires-clause-room c =
