@@ -140,7 +140,11 @@ fn body_at<L: Ledger>(
 
 // What an instance has read in a render, shared with its next one. Most read nothing of a kind, before and after: then what was
 // kept before is handed on. (Effects are kept anew: by their handle a commit knows whether an instance was rendered anew.)
-fn shared<T: Drop>(alloc: Global, kept: Vec<T>, before: Rc<Vec<T>>) -> Result<Rc<Vec<T>>, AllocError>
+fn shared<T: Drop>(
+    alloc: Global,
+    kept: Vec<T>,
+    before: Rc<Vec<T>>,
+) -> Result<Rc<Vec<T>>, AllocError>
     ensures { IfOk result (λ r. r.value.items ≡ kept.items) }
 {
     if kept.is_empty() && before.is_empty() {
