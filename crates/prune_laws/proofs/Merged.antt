@@ -296,3 +296,7 @@ module _ {ks ls hs ms ns gs : List Host} (old : Merged ks ls hs) (new : Merged m
   -- hosts that are in both lists need no operation
   pub ops_same : KeepKinds hs gs → ops_between ks ms [] ≡ ops_between hs gs []
   ops_same kinds = rw (removals_same, creations_same, nothing_placed gs, nothing_placed ms, contents_same kinds, hidings_same) refl
+
+  -- nor do they need one if hosts of these numbers are placed, but that those go before hosts that may be in both
+  pub ops_placed : KeepKinds hs gs → (placed : List ℕ) → removals ks ms ++ creations ks ms ++ placements placed gs ++ contents ks ms ++ hidings ks ms ≡ ops_between hs gs placed
+  ops_placed kinds placed = rw (removals_same, creations_same, contents_same kinds, hidings_same) refl

@@ -1,6 +1,6 @@
 -- What is compared without the lists that stayed the same.
 use Rattle.std.specs.Prelude.{length, ◌∷◌, refl}
-use Rattle.std.proofs.Common.{◌≡◌, ℕ, List, [], Option, Some, None, sym, ap, subst, ◌∙◌, arith}
+use Rattle.std.proofs.Common.{◌≡◌, ℕ, List, [], Option, Some, None, sym, ap, subst, ◌∙◌}
 use Rattle.rx_elem.specs.Trees.{Node, node, Forest, none, vacant, child}
 use Rattle.rx_elem.specs.Compare.{Compared, changes, compare_trees}
 use Rattle.rx_forest.specs.declared.op.HostOp.{HostOp}
@@ -13,9 +13,10 @@ use Rattle.host_laws.specs.Commits.{IsCommit, IfSound}
 use Rattle.host_laws.specs.Related.{AreDistinct, KeepKinds}
 use Rattle.prune_laws.specs.Present.{HasNoNull, AllHaveNoNull, IfHasNoNull}
 use Rattle.prune_laws.proofs.PrunedAlike.{trees_alike}
-use Rattle.prune_laws.proofs.Staying.{left_distinct, staying_need_nothing}
+use Rattle.prune_laws.proofs.Staying.{left_distinct, placed_need_others, staying_need_nothing}
 use Rattle.prune_laws.proofs.OutcomeAlike.{layout_alike, passive_alike, committed_alike, deferred_alike}
 use Rattle.prune_laws.specs.Staying.{AreOfCommit}
+use Rattle.rx_host_ops.specs.Among.{ops_among}
 use Rattle.end_laws.specs.Trimmed.{trimmed, trimmed_in, trimmed_if, vacant_before}
 use Rattle.end_laws.proofs.Read.{hosts_same}
 use Rattle.rx_base.specs.Awaits.{Awaits}
@@ -59,13 +60,15 @@ of-commit tree next o n e f h =
       kinds = subst (λ (hs : List Host). KeepKinds hs (hosts (Some n))) old (subst (KeepKinds (hosts tree)) new h.kinds);
     }
 
--- the operations between all hosts, if those hosts are placed that the trees without those lists tell
-pub ops-of-all : (o : Option Node) (b : Beside) (c : Compared) (placed : List ℕ) (ops : List HostOp) → IsBeside o b → c ≡ compare_trees b.pruned_old b.pruned_new
-    → placed ≡ placed_hosts (changes c) → ops ≡ ops_between (hosts o) (hosts (Some b.tree)) placed → IfHasNoNull o → ops ≡ host_ops o b.tree
-unfolding host_ops
-ops-of-all o b c placed ops beside e f g present =
+-- the operations between the hosts of the trees without those lists, if those hosts are placed among all that these trees tell
+pub ops-of-all : (o : Option Node) (b : Beside) (c : Compared) (placed : List ℕ) (ops : List HostOp) (p : Option Node) → IsBeside o b → c ≡ compare_trees b.pruned_old b.pruned_new
+    → placed ≡ placed_hosts (changes c) → p ≡ b.pruned_old → ops ≡ ops_among (hosts p) (hosts (Some b.pruned_new)) (hosts (Some b.tree)) placed
+    → IfHasNoNull o → AreOfCommit o b.tree → ops ≡ host_ops o b.tree
+ops-of-all o b c placed ops p beside e f same g present of =
     g
-    ∙ ap (ops_between (hosts o) (hosts (Some b.tree))) (f ∙ ap (λ (d : Compared). placed_hosts (changes d)) e ∙ (trees_alike beside present).places)
+    ∙ ap (λ (x : Option Node). ops_among (hosts x) (hosts (Some b.pruned_new)) (hosts (Some b.tree)) placed) same
+    ∙ ap (ops_among (hosts b.pruned_old) (hosts (Some b.pruned_new)) (hosts (Some b.tree))) (f ∙ ap (λ (d : Compared). placed_hosts (changes d)) e ∙ (trees_alike beside present).places)
+    ∙ placed_need_others o b.tree b.pruned_old b.pruned_new beside of
 
 -- what error boundaries catch, by the trees without those lists
 pub caught-of : (tree : Option Node) (next : Node) (o : Option Node) (b : Beside) (c : Compared) → IsBeside o b → c ≡ compare_trees b.pruned_old b.pruned_new

@@ -5,6 +5,7 @@ ghost use Rattle.rx_elem.specs.Compare.{changes, compare_trees};
 ghost use Rattle.rx_elem.specs.Trees.{Node};
 ghost use Rattle.rx_forest.specs.Hosts.{hosts};
 ghost use Rattle.rx_forest.specs.HostOps.{host_ops, ops_between, placed_hosts};
+ghost use Rattle.rx_host_ops.specs.Among.{ops_among};
 ghost use Rattle.rx_lane.specs.Lanes.{has, lanes_where};
 ghost use Rattle.rx_lines.specs.Lines.{caught, committed, logged, operated};
 ghost use Rattle.rx_pruned.specs.Besides.{IsBeside};
@@ -21,7 +22,10 @@ use prune_laws::{hosts_that_stay_need_nothing, pruned_trees_compare_alike};
 use rx_base::Int;
 use rx_changes::{Changes, Lines, changes_between};
 use rx_forest::HostOp;
-use rx_host_ops::{have_same_numbers, hosts as listed, ops_between as between, ops_in_place};
+use rx_host_ops::{
+    have_same_numbers, hosts as listed, ops_among as among_all, ops_between as between,
+    ops_in_place,
+};
 use rx_lane::{Lane, Lanes};
 use rx_node as node;
 use rx_pruned::Beside;
@@ -56,18 +60,20 @@ impl Model for Prepared {
     ghost view = { λ p. record { tree = p.tree; ops = p.ops.items; caught = p.caught.items; layout = p.layout.destroyed.items ++ p.layout.created.items; passive = passive_seen p.passive } };
 }
 
-// The operations from the hosts of one tree to those of another.
+// The operations from the hosts of one tree to those of another, if hosts of these numbers are placed among those of a third.
 fn ops_from(
     alloc: Global,
     old: Option<&node::Node>,
     new: &node::Node,
+    all: &node::Node,
     placed: &[u64],
 ) -> Result<Vec<HostOp>, AllocError>
-    ensures { IfOk result (λ ops. ops.items ≡ ops_between (hosts (option_copied old.entry)) (hosts (Some new.now)) placed.now) }
+    ensures { IfOk result (λ ops. ops.items ≡ ops_among (hosts (option_copied old.entry)) (hosts (Some new.now)) (hosts (Some all.now)) placed.now) }
 {
     let before = listed(alloc, old)?;
     let after = listed(alloc, Some(new))?;
-    between(alloc, &before, &after, placed)
+    let among = listed(alloc, Some(all))?;
+    among_all(alloc, &before, &after, &among, placed)
 }
 
 // The operations from the hosts of one tree to those of another, if none is placed. Most often each host stands where it stood.
@@ -86,8 +92,8 @@ fn changes_from(
     between(alloc, &before, &after, &[])
 }
 
-// The operations of a commit. A host that is placed goes before its next sibling, and that one may have stayed; so only if
-// none is placed are the hosts of lists that stayed left out.
+// The operations of a commit, between the trees without what stayed. A host that is placed goes before its next sibling, and that
+// one may have stayed: only where such ones go is told by all hosts of the new tree.
 fn ops_beside(
     alloc: Global,
     old: Option<&node::Node>,
@@ -100,11 +106,12 @@ fn ops_beside(
 {
     pruned_trees_compare_alike();
     hosts_that_stay_need_nothing();
+    let before = beside.pruned_old.as_ref();
+    let after = &beside.pruned_new;
     if placed.is_empty() {
-        let pruned = beside.pruned_old.as_ref();
-        changes_from(alloc, pruned, &beside.pruned_new)
+        changes_from(alloc, before, after)
     } else {
-        ops_from(alloc, old, &beside.tree, placed)
+        ops_from(alloc, before, after, &beside.tree, placed)
     }
 }
 

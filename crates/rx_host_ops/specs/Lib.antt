@@ -3,3 +3,4 @@ pub mod Tables
 pub mod Attrs
 pub mod Each
 pub mod Beside
+pub mod Among

@@ -5,6 +5,7 @@ ghost use Rattle.std.specs.Option.{option_map_or};
 ghost use Rattle.rx_forest.specs.HostOps as forest;
 ghost use Rattle.rx_forest.specs.Hosts.{host_numbered};
 ghost use Rattle.host_laws.specs.Related.{AreDistinct};
+ghost use Rattle.rx_host_ops.specs.Among.{ops_among};
 ghost use Rattle.rx_host_ops.specs.Beside.{beside, change_of, mark_of, numbers_in};
 ghost use Rattle.rx_host_ops.specs.Each.{contents_of, creation_of, hiding_of, removal_of};
 ghost use Rattle.rx_host_ops.specs.Tables.{KnowsAll};
@@ -227,9 +228,36 @@ pub fn ops_in_place(alloc: Global, old: &[Host], new: &[Host]) -> Result<Vec<Hos
     Ok(ops)
 }
 
-/// The operations of a commit (react.dev, Render and Commit), from the hosts of an old tree to those of a new one, if hosts
-/// of these numbers are placed: the removals, each with all that is below it; what is made; the placements; the changes of
-/// attributes and texts; and the changes of marks.
+/// The operations of a commit (react.dev, Render and Commit), from some hosts of an old tree to some of a new one, if hosts of
+/// these numbers are placed among all of the new one: the removals, each with all that is below it; what is made; the placements;
+/// the changes of attributes and texts; and the changes of marks. Hosts that stay as they are may be left out of the first two,
+/// not of all, since a placed host goes before its next sibling, which may be such a one.
+///
+/// # Errors
+///
+/// Only if out of memory.
+pub fn ops_among(
+    alloc: Global,
+    old: &[Host],
+    new: &[Host],
+    all: &[Host],
+    placed: &[u64],
+) -> Result<Vec<HostOp>, AllocError>
+    ensures { IfOk result (λ ops. ops.items ≡ ops_among old.now new.now all.now placed.now) }
+{
+    let before = Known::new(alloc, old)?;
+    let after = Known::new(alloc, new)?;
+    let mut placing = placements(alloc, all, placed)?;
+    let mut ops = Vec::new(alloc);
+    before.add_removals(&after, old, &mut ops)?;
+    before.add_creations(alloc, new, &mut ops)?;
+    ops.append(&mut placing)?;
+    before.add_all_contents(alloc, new, &mut ops)?;
+    before.add_hidings(new, &mut ops)?;
+    Ok(ops)
+}
+
+/// The operations of a commit, from the hosts of an old tree to those of a new one, if hosts of these numbers are placed.
 ///
 /// # Errors
 ///
@@ -242,14 +270,5 @@ pub fn ops_between(
 ) -> Result<Vec<HostOp>, AllocError>
     ensures { IfOk result (λ ops. ops.items ≡ forest.ops_between old.now new.now placed.now) }
 {
-    let before = Known::new(alloc, old)?;
-    let after = Known::new(alloc, new)?;
-    let mut placing = placements(alloc, new, placed)?;
-    let mut ops = Vec::new(alloc);
-    before.add_removals(&after, old, &mut ops)?;
-    before.add_creations(alloc, new, &mut ops)?;
-    ops.append(&mut placing)?;
-    before.add_all_contents(alloc, new, &mut ops)?;
-    before.add_hidings(new, &mut ops)?;
-    Ok(ops)
+    ops_among(alloc, old, new, new, placed)
 }

@@ -10,6 +10,6 @@ mod placing;
 mod reading;
 mod table;
 
-pub use between::{have_same_numbers, ops_between, ops_in_place};
+pub use between::{have_same_numbers, ops_among, ops_between, ops_in_place};
 pub use host::Host;
 pub use reading::hosts;

@@ -13,8 +13,8 @@ returns-then-is_empty c =
     let empty : placed ≡ [] = none-left placed count in
     IfOk-weaker c.changes_from.result _ _
     (λ ops is present of.
-    ops-of-left (option_copied c.args.old) beside (compare_trees beside.pruned_old beside.pruned_new) placed ops.items (option_copied c.as_ref-pruned.result) c.requires.beside refl
-    c.requires.placed empty c.as_ref-pruned.ensures.value is present of)
+    ops-of-left (option_copied c.args.old) beside (compare_trees beside.pruned_old beside.pruned_new) placed ops.items (option_copied c.as_ref-before.result) c.requires.beside refl
+    c.requires.placed empty c.as_ref-before.ensures.value is present of)
     c.changes_from.ensures
 
 pub returns-else-is_empty : goal.returns-else-is_empty
@@ -22,6 +22,6 @@ returns-else-is_empty c =
     let beside = c.args.beside.now in
     IfOk-weaker c.ops_from.result _ _
     (λ ops is present of.
-    ops-of-all (option_copied c.args.old) beside (compare_trees beside.pruned_old beside.pruned_new) c.args.placed.now ops.items c.requires.beside refl
-    c.requires.placed is present)
+    ops-of-all (option_copied c.args.old) beside (compare_trees beside.pruned_old beside.pruned_new) c.args.placed.now ops.items (option_copied c.as_ref-before.result) c.requires.beside refl
+    c.requires.placed c.as_ref-before.ensures.value is present of)
     c.ops_from.ensures
