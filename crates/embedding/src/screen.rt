@@ -42,9 +42,7 @@ impl<L: Ledger> Screen<L> {
         ensures { StandsForSome self.new.root }
     {
         let app = Name::new(self.alloc, "App")?;
-        let path = Path {
-            parts: vec![in self.alloc; (app, 0)]?,
-        };
+        let path = Path::new(self.alloc, vec![in self.alloc; (app, 0)]?)?;
         let hook = Name::new(self.alloc, hook)?;
         let dispatch = Dispatch::Set(word, path, hook, Int::of(value));
         ensure!(self.root.has_room(), "no room");

@@ -67,7 +67,7 @@ fn push_later(text: &mut Vec<u8>, parts: &[(Name, u64)]) -> Result<(), AllocErro
 fn push_path(text: &mut Vec<u8>, path: &Path) -> Result<(), AllocError>
     ensures { OnOk result (text.new.items ≡ text.old.items ++ path_text path.now) }
 {
-    match path.parts.as_slice() {
+    match path.parts() {
         [] => Ok(()),
         [first, later @ ..] => {
             text.extend_from_slice(b" ")?;

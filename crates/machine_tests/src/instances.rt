@@ -1,7 +1,5 @@
 // An instance is looked up, hooks are shown, and what a boundary waits for is read.
 ghost use Rattle.std.specs.Prelude.{◌≡◌, IfOk};
-ghost use Rattle.rx_fiber.specs.Fibers.{own_subtree};
-ghost use Rattle.rx_fiber.specs.FiberView.{stage_seen};
 ghost use Rattle.rx_fiber.specs.Subtrees.{IsGathered};
 
 use rx_ast::{Body, Component, Declaration, Expr, Program, Slot, Statement};
@@ -9,7 +7,7 @@ use rx_base::{Awaits, Int, Ints, Name};
 use rx_check::{Checked, check};
 use rx_dispatch::dispatch_path;
 use rx_elem::{Element, ElementKind};
-use rx_fiber::{Fiber, Stage, Subtree};
+use rx_fiber::{Fiber, Stage, StageChange, Subtree};
 use rx_hook_store::HookStore;
 use rx_instances::{awaited, find_instance, hidden_count, node_count, show_hooks};
 use rx_links::FiberTree;
@@ -47,14 +45,15 @@ fn counter(alloc: Global) -> Result<Program, AllocError> {
     Ok(Program::new(false, declarations))
 }
 
-// A current fiber alone, of this stage, with what this tells of itself.
-fn alone(alloc: Global, stage: Stage, own: Subtree) -> Result<FiberTree<Fiber>, AllocError>
-    requires { own ≡ own_subtree (stage_seen stage) }
+// A current fiber alone, of this stage.
+fn alone(alloc: Global, stage: Stage) -> Result<FiberTree<Fiber>, AllocError>
     ensures { IfOk result (λ tree. IsGathered tree.current) }
 {
     let element = Element::new(alloc, ElementKind::Null)?;
+    let mut fiber = Fiber::new(0, element, stage);
+    fiber.change(StageChange::Complete(Subtree::nothing()));
     let mut tree = FiberTree::new(alloc);
-    tree.start(Fiber::new(0, element, stage).with_subtree(own))?;
+    tree.start(fiber)?;
     tree.swap();
     Ok(tree)
 }
@@ -73,13 +72,7 @@ fn counted(alloc: Global) -> Result<FiberTree<Fiber>, AllocError>
         versions: Rc::new(alloc, Vec::new(alloc))?,
         effects: Rc::new(alloc, Vec::new(alloc))?,
     };
-    let own = Subtree {
-        reads: false,
-        uses: false,
-        hides: false,
-        instances: true,
-    };
-    alone(alloc, Stage::Begun(Mark::Instance(instance)), own)
+    alone(alloc, Stage::Begun(Mark::Instance(instance)))
 }
 
 // `set n = 7` of the counter.
@@ -87,7 +80,8 @@ fn set_seven(alloc: Global) -> Result<Dispatch, AllocError> {
     let mut parts = Vec::new(alloc);
     parts.push((Name::new(alloc, "App")?, 0))?;
     let name = Name::new(alloc, "n")?;
-    Ok(Dispatch::Set(LaneWord::Sync, Path { parts }, name, Int::of(7)))
+    let path = Path::new(alloc, parts)?;
+    Ok(Dispatch::Set(LaneWord::Sync, path, name, Int::of(7)))
 }
 
 #[test]
@@ -138,13 +132,7 @@ fn no_hooks_at_the_start(rt: HostRuntime) -> Result<(), Fail> {
 #[test]
 fn a_boundary_waits(rt: HostRuntime) -> Result<(), Fail> {
     let mark = Mark::Boundary(BoundaryState::Hidden(Awaits::one(3)));
-    let own = Subtree {
-        reads: false,
-        uses: false,
-        hides: true,
-        instances: false,
-    };
-    let tree = alone(rt.alloc(), Stage::Begun(mark), own)?;
+    let tree = alone(rt.alloc(), Stage::Begun(mark))?;
     assert!(rt; awaited(&tree).has(3));
     assert_eq!(rt; hidden_count(&tree), 1);
     Ok(())

@@ -196,8 +196,8 @@ pub fn is_idle(
     tree.facts();
     match old {
         Some(id) => {
-            !is_anew(tree.value(id).stage(), component, scene, contexts)
-                && !leads_to_cause(tree, id, scene, hooks)
+            let stage = tree.value(id).stage();
+            !leads_to_cause(tree, id, scene, hooks) && !is_anew(stage, component, scene, contexts)
         }
         None => false,
     }

@@ -4,15 +4,15 @@ use Rattle.std.proofs.Common.{refl, ap, ◌∙◌, subst}
 use Rattle.rx_elem.specs.Elements.{Element}
 use Rattle.rx_lists.specs.Shapes.{IsTop}
 use Rattle.rx_lists.specs.Shapes as shapes
-use Rattle.rx_links.specs.Drafts.{Draft, taken, made, Trees, Makes, entry, old_of, IsMadeList}
+use Rattle.rx_links.specs.Drafts.{Draft, taken, made, Trees, Makes, entry, old_of, valued, IsMadeList}
 use Rattle.rx_links.specs.Places.{Around, placed, IsAt}
-use Rattle.rx_links.specs.Readers.{list_from, IsLinked, made_value_in, made_kids_of, made_kids_in}
+use Rattle.rx_links.specs.Readers.{list_from, IsLinked, made_kids_of, made_kids_in}
 use Rattle.rx_fiber.specs.Fibers.{Fiber, Stage}
 use Rattle.rx_fiber.specs.OldLists.{primary_list}
 use Rattle.rx_fiber.proofs.OldTops.{primary_top}
 use Rattle.rx_fiber.specs.declared.stage.Origin.{Origin}
 use Rattle.rx_children.specs.Children.{HasMadeFrom}
-use Rattle.rx_children.specs.Nodes.{IsBareAt, IsBareBeside, HasStage, HasList, HasOpened, begun_over, begun_from}
+use Rattle.rx_children.specs.Nodes.{IsBareAt, IsBareBeside, HasList, HasOpened, begun_over, begun_from}
 use Rattle.rx_children.specs.declared.node.Begun.{Begun}
 use Rattle.rx_children.proofs.Making.{KnowsPlaces, made_list}
 
@@ -26,21 +26,18 @@ module _ (origin : Origin) (t u new : Trees Fiber) (p : ℕ) (first : Option ℕ
   pub still_made : Makes u.draft p
   still_made = (knows beside.around p beside.value beside.old done.kids beside.rest (done.stands beside.around beside.value beside.old beside.rest beside.here)).makes
 
-  module _ (changes : HasStage u new p stage) (knows_new : KnowsPlaces new) where
+  module _ (changes : new ≡ record u { draft = valued p (λ w. record w { stage = stage }) u.draft }) (knows_new : KnowsPlaces new) where
     stage_stands : (k : Around Fiber) (v : Fiber) (o : Option ℕ) (rs : Draft Fiber) → u.draft ≡ placed k (made p v o done.kids rs)
         → new.draft ≡ placed k (made p (record v { stage = stage }) o done.kids rs)
     stage_stands k v o rs e =
-        let at = knows k p v o done.kids rs e in
-        ap (λ x. x.draft) (changes v (ap made_value_in at.list)) ∙ at.value (λ w. record v { stage = stage })
+        ap (λ x. x.draft) changes ∙ (knows k p v o done.kids rs e).value (λ w. record w { stage = stage })
 
     stands_new : (k : Around Fiber) (v : Fiber) (o : Option ℕ) (rs : Draft Fiber) → t.draft ≡ placed k (made p v o (taken shapes.none) rs)
         → new.draft ≡ placed k (made p (record v { stage = stage }) o done.kids rs)
     stands_new k v o rs e = stage_stands k v o rs (done.stands k v o rs e)
 
     same_current : new.current ≡ t.current
-    same_current =
-        let at = knows beside.around p beside.value beside.old done.kids beside.rest (done.stands beside.around beside.value beside.old beside.rest beside.here) in
-        ap (λ x. x.current) (changes beside.value (ap made_value_in at.list)) ∙ done.current
+    same_current = ap (λ x. x.current) changes ∙ done.current
 
     at_new : IsAt new beside.around p (record beside.value { stage = stage }) beside.old done.kids beside.rest
     at_new = knows_new beside.around p (record beside.value { stage = stage }) beside.old done.kids beside.rest (stands_new beside.around beside.value beside.old beside.rest beside.here)

@@ -7,9 +7,9 @@ use Rattle.rx_elem.specs.Elements as elements
 use Rattle.rx_elem.specs.Trees.{Mark, of_host, plain}
 use Rattle.rx_lists.specs.Shapes.{IsTop}
 use Rattle.rx_lists.specs.Shapes as shapes
-use Rattle.rx_links.specs.Drafts.{Draft, taken, made, Trees, entry, kids_under, valued}
+use Rattle.rx_links.specs.Drafts.{Draft, taken, made, Trees, entry, kids_under}
 use Rattle.rx_links.specs.Places.{Around, placed}
-use Rattle.rx_links.specs.Readers.{list_from, made_value_of}
+use Rattle.rx_links.specs.Readers.{list_from}
 use Rattle.rx_fiber.specs.declared.subtree.Subtree.{Subtree}
 use Rattle.rx_fiber.specs.Fibers.{Stage, Fiber, waiting, begun, trying, guarding, joined, marked_subtree}
 use Rattle.rx_fiber.specs.Subtrees.{subtree_at}
@@ -40,10 +40,6 @@ pub record IsBareBeside (t : Trees Fiber) (p : ℕ) (first : Option ℕ) : Type 
 abbrev pub begun_over : Draft Fiber → Begun
 begun_over (taken s) = Leaf
 begun_over (made id v o ks rs) = Child id
-
--- a made fiber has this stage, and nothing else is changed
-abbrev pub HasStage : (before after : Trees Fiber) → (p : ℕ) → Stage → Type 0
-HasStage t new p stage = (v : Fiber) → made_value_of t.draft p ≡ Some v → new ≡ record t { draft = valued p (λ w. record v { stage = stage }) t.draft }
 
 -- the same, from its first child, if it has one
 abbrev pub begun_from : (first : Option ℕ) → Begun

@@ -265,6 +265,9 @@ pub fn make_children(
     ensures made { OnOk result (HasMadeFrom (as_matched visible generation) 0 tree.old tree.new at elements.now (matched (list_from tree.old.current first_old) elements.now)) }
     ensures current { tree.new.current ≡ tree.old.current }
 {
+    if elements.is_empty() {
+        return Ok(());
+    }
     if is_only(tree, elements, &first_old) {
         make_first(tree, at, elements, first_old, visible, generation)
     } else {

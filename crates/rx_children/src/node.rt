@@ -1,17 +1,16 @@
 // A node begins over its children.
 ghost use Rattle.std.specs.Prelude.{◌≡◌, Some, IfOk, OnOk, IfSome, IsSome, option_and_then, option_map};
 ghost use Rattle.rx_lists.specs.Shapes.{Holds};
-ghost use Rattle.rx_elem.specs.Trees.{Mark as MarkSeen, caught_in, host_number, instance_in};
-ghost use Rattle.rx_links.specs.Drafts.{Makes, old_of};
-ghost use Rattle.rx_links.specs.Readers.{list_from, made_value_of};
-ghost use Rattle.rx_fiber.specs.Fibers as fibers;
+ghost use Rattle.rx_elem.specs.Trees.{caught_in, host_number, instance_in};
+ghost use Rattle.rx_links.specs.Drafts.{old_of};
+ghost use Rattle.rx_links.specs.Readers.{list_from};
 ghost use Rattle.rx_fiber.specs.Fibers.{as_cloned, as_matched};
 ghost use Rattle.rx_fiber.specs.FiberView.{stage_seen};
 ghost use Rattle.rx_node.specs.MarkView.{instance_seen, mark_seen};
 ghost use Rattle.rx_fiber.specs.OldLists.{matched, old_elements, old_fibers, primary_list};
 ghost use Rattle.rx_fiber.specs.Subtrees.{subtree_at};
 ghost use Rattle.rx_causes.specs.Marks.{keeps_children, mark_at};
-ghost use Rattle.rx_children.specs.Nodes.{IsBareAt, IsBareBeside, HasStage, HasList, HasOpened, HasTaken, begun_from, taken_as};
+ghost use Rattle.rx_children.specs.Nodes.{IsBareAt, IsBareBeside, HasList, HasOpened, HasTaken, begun_from};
 
 use crate::children::make_children;
 use crate::clones::clone_children;
@@ -109,19 +108,6 @@ fn old_subtree(tree: &FiberTree<Fiber>, old: Option<FiberId>) -> Subtree
     }
 }
 
-// Changes the stage of a made fiber.
-fn set_stage(tree: &mut FiberTree<Fiber>, at: FiberId, stage: Stage) -> Result<(), AllocError>
-    requires { Makes tree.old.draft at }
-    ensures stage { OnOk result (HasStage tree.old tree.new at (stage_seen stage)) }
-    ensures current { tree.new.current ≡ tree.old.current }
-{
-    let fiber = tree.value(at);
-    let element = fiber.element().copy()?;
-    let begun = Fiber::new(fiber.place(), element, stage).with_subtree(fiber.subtree());
-    tree.set_value(at, begun);
-    Ok(())
-}
-
 /// Begins a fiber with this stage over these children, which are of this generation, each made for its old one in the current list
 /// that begins with a fiber, and gives the first of them. `visible` tells whether the old ones are shown.
 ///
@@ -145,7 +131,7 @@ pub fn open_list(
 {
     make_children(alloc, tree, at, elements, first_old, visible, generation)?;
     tree.place_facts();
-    set_stage(tree, at, stage)?;
+    tree.give(at, stage);
     tree.place_facts();
     Ok(tree.first_child(at))
 }
@@ -171,7 +157,7 @@ pub fn open_clones(
 {
     clone_children(alloc, tree, at, first_old, visible)?;
     tree.place_facts();
-    set_stage(tree, at, stage)?;
+    tree.give(at, stage);
     tree.place_facts();
     Ok(tree.first_child(at))
 }
@@ -239,24 +225,16 @@ pub fn keep_node(
     Ok(begun_from(first))
 }
 
-// The fiber that takes over what is below its old node: it has the mark of that node, and what is kept of what is at or below it.
-fn taken_fiber(tree: &FiberTree<Fiber>, at: FiberId) -> Result<Fiber, AllocError>
-    requires bare { IsBareAt tree.now at }
-    requires there { IsSome (mark_at tree.now.current (old_of tree.now.draft at)) }
-    ensures { IfOk result (λ f. (v : fibers.Fiber) (m : MarkSeen) → Some v ≡ made_value_of tree.now.draft at → mark_at tree.now.current (old_of tree.now.draft at) ≡ Some m
-        → f ≡ taken_as m (subtree_at tree.now.current (old_of tree.now.draft at)) v) }
+// The mark of an old node once more, by its current fiber.
+fn copy_mark(tree: &FiberTree<Fiber>, old: Option<FiberId>) -> Result<Mark, AllocError>
+    requires held { IfSome old (Holds tree.now.current) }
+    requires there { IsSome (mark_at tree.now.current old) }
+    ensures { IfOk result (λ m. Some (mark_seen m) ≡ mark_at tree.now.current old) }
 {
-    tree.place_facts();
-    let below = old_subtree(tree, tree.alternate(at));
-    let fiber = tree.value(at);
-    let mark = match old_mark(tree, tree.alternate(at)) {
-        Some(mark) => mark.copy()?,
+    match old_mark(tree, old) {
+        Some(mark) => Ok(mark.copy()?),
         None => unreachable!(),
-    };
-    let element = fiber.element().copy()?;
-    let mut taken = Fiber::new(fiber.place(), element, Stage::Begun(mark));
-    taken.change(StageChange::Complete(below));
-    Ok(taken)
+    }
 }
 
 /// Takes the children of a fiber's old node over as they stand, by one link: the fiber gets the mark of that node, and what is kept
@@ -272,9 +250,12 @@ pub fn take_node(tree: &mut FiberTree<Fiber>, at: FiberId) -> Result<(), AllocEr
     ensures current { tree.new.current ≡ tree.old.current }
 {
     tree.place_facts();
-    let taken = taken_fiber(tree, at)?;
+    let mark = copy_mark(tree, tree.alternate(at))?;
+    let below = old_subtree(tree, tree.alternate(at));
     tree.take_over(at);
     tree.place_facts();
-    tree.set_value(at, taken);
+    tree.give(at, Stage::Begun(mark));
+    tree.place_facts();
+    tree.mark_made(at, &StageChange::Complete(below));
     Ok(())
 }

@@ -34,7 +34,7 @@ pub fn dispatch_path(dispatch: &Dispatch) -> &[(Name, u64)]
         Dispatch::Set(_, path, ..)
         | Dispatch::Call(_, path, ..)
         | Dispatch::Send(_, path, ..)
-        | Dispatch::Start(_, path, _) => &path.parts,
+        | Dispatch::Start(_, path, _) => path.parts(),
         Dispatch::Refresh(..) => &[],
     }
 }

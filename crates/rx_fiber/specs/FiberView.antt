@@ -18,6 +18,10 @@ stage_seen (stage.Trying c) = fibers.trying c
 stage_seen stage.Guarding = fibers.guarding
 stage_seen (stage.Fallback a) = fibers.fallback a
 
+-- a fiber that has come to this stage
+abbrev pub staged : Stage → fibers.Fiber → fibers.Fiber
+staged s v = record v { stage = stage_seen s }
+
 -- a fiber after a change
 abbrev pub changed : StageChange → fibers.Fiber → fibers.Fiber
 changed (change.Complete below) v = completed below v

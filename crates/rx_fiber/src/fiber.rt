@@ -59,24 +59,6 @@ impl Fiber {
         }
     }
 
-    /// The same fiber, with this at or below it.
-    pub fn with_subtree(self, subtree: Subtree) -> Fiber
-        ensures { result ≡ record self { subtree = subtree } }
-    {
-        let Fiber {
-            place,
-            element,
-            stage,
-            subtree: _,
-        } = self;
-        Fiber {
-            place,
-            element,
-            stage,
-            subtree,
-        }
-    }
-
     /// Its place among the children of its parent.
     pub fn place(&self) -> u32
         ensures { result ≡ self.now.place }
@@ -165,6 +147,16 @@ impl Fiber {
             }
             StageChange::Number(number) => self.stage.give_number(number),
         }
+    }
+}
+
+impl rx_lists::Give<Stage> for Fiber {
+    ghost use Rattle.rx_fiber.specs.FiberView.{staged};
+
+    ghost given = { staged };
+
+    fn give(&mut self, stage: Stage) {
+        self.stage = stage;
     }
 }
 

@@ -4,5 +4,5 @@
 mod tree;
 
 pub use rx_arena::FiberId;
-pub use rx_lists::Mark;
+pub use rx_lists::{Give, Mark};
 pub use tree::FiberTree;

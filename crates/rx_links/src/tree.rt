@@ -8,8 +8,8 @@ ghost use Rattle.rx_links.specs.Places.{Around, placed, IsAt};
 
 use rx_arena::{Arena, FiberId};
 use rx_lists::{
-    Mark, adopt, ids_into, make_behind, make_child, make_root, mark_list, mark_one, mark_up,
-    old_children, own_children, release_list, write_one,
+    Give, Mark, adopt, give_one, ids_into, make_behind, make_child, make_root, mark_list, mark_one,
+    mark_up, old_children, own_children, release_list,
 };
 use std::alloc::{AllocError, Global};
 use std::marker::Model;
@@ -164,14 +164,14 @@ impl<F> FiberTree<F> {
         self.draft = None;
     }
 
-    /// Writes the value of a made fiber.
-    pub fn set_value(&mut self, id: FiberId, value: F)
+    /// Gives something to the value of a made fiber, in place.
+    pub fn give<L>(&mut self, id: FiberId, what: L)
     where
-        F: Drop,
+        F: Give<L>,
         requires { Makes self.old.draft id }
-        ensures { self.new ≡ record self.old { draft = valued id (λ v. value) self.old.draft } }
+        ensures { self.new ≡ record self.old { draft = valued id (F.given what) self.old.draft } }
     {
-        write_one(&mut self.nodes, id, value);
+        give_one(&mut self.nodes, id, what);
     }
 
     /// Marks a current fiber and those above it, each with its alternate, up to the root: as an update does.

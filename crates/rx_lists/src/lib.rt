@@ -10,7 +10,7 @@ mod walk;
 
 pub use links::old_children;
 pub use make::{make_behind, make_child, make_root};
-pub use mark::{Mark, mark_list, mark_one, mark_up, write_one};
+pub use mark::{Give, Mark, give_one, mark_list, mark_one, mark_up};
 pub use release::{own_children, release_list};
 pub use returns::adopt;
 pub use walk::ids_into;

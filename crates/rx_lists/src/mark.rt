@@ -1,4 +1,4 @@
-// Values that are written, and marks on a way or on a list.
+// Values that are given something, and marks on a way or on a list.
 ghost use Rattle.std.specs.Prelude.{◌≡◌, Some, IfSome, Option};
 ghost use Rattle.rx_arena.specs.Nodes.{IsLive, Changes};
 ghost use Rattle.rx_lists.specs.Reads.{limit, shape_of};
@@ -17,6 +17,14 @@ pub trait Mark<L> {
         ensures { self.new ≡ marked by.now self.old };
 }
 
+/// What a value becomes when it is given something that it keeps, as a fiber the stage that it has come to.
+pub trait Give<L> {
+    ghost given: { L → Self → Self };
+
+    fn give(&mut self, what: L)
+        ensures { self.new ≡ given what self.old };
+}
+
 /// Marks one node.
 pub fn mark_one<L, F: Mark<L>>(nodes: &mut Arena<F>, id: FiberId, by: &L)
     requires { IsLive nodes.old id }
@@ -26,13 +34,13 @@ pub fn mark_one<L, F: Mark<L>>(nodes: &mut Arena<F>, id: FiberId, by: &L)
     value.mark(by);
 }
 
-/// Writes the value of one node.
-pub fn write_one<F: Drop>(nodes: &mut Arena<F>, id: FiberId, value: F)
+/// Gives something to the value of one node.
+pub fn give_one<L, F: Give<L>>(nodes: &mut Arena<F>, id: FiberId, what: L)
     requires { IsLive nodes.old id }
-    ensures { Changes (revalued (λ v. value)) nodes.old nodes.new id }
+    ensures { Changes (revalued (F.given what)) nodes.old nodes.new id }
 {
-    let place = nodes.get_mut(id);
-    *place = value;
+    let value = nodes.get_mut(id);
+    value.give(what);
 }
 
 fn mark_link<L, F: Mark<L>>(nodes: &mut Arena<F>, link: Option<FiberId>, by: &L)

@@ -1,13 +1,11 @@
 -- What is read of the word of a path.
-use Rattle.std.proofs.Common.{◌≡◌, ◌∙◌, sym, ap, ℕ, Option, Some, None, option_map, refl, true, bytes_eq}
-use Rattle.std.specs.Prelude.{option_and_then}
+use Rattle.std.proofs.Common.{◌≡◌, ◌∙◌, ap, ℕ, Option, Some, None, option_map, refl, true, bytes_eq}
 use Rattle.std.proofs.lemmas.Slice.Eq.{bytes_eq-Decides}
 use Rattle.rx_base.specs.Values.{Text}
 use Rattle.rx_ast.specs.Syntax.{Program}
 use Rattle.rx_step.specs.Steps.{Path}
-use Rattle.rx_script.specs.declared.path_reader.Spot.{Spot}
 use Rattle.rx_script.specs.Lines.{path_of, target_of}
-use Rattle.rx_script.specs.Readings.{IsRead, held_path, spot_at, spot_of, target_at}
+use Rattle.rx_script.specs.Readings.{held_path, spot_at, spot_of}
 use Rattle.rx_script.proofs.Formed.{target-held}
 
 -- words with the same bytes
@@ -21,29 +19,14 @@ spot_none p word is = by_path (path_of word) is where
   by_path None e = refl
   by_path (Some q) e = cc
 
--- a word that is a path ends at the component that the path ends at
-pub target_read : (p : Program) (word : Text) (path : Path) → IsRead word path → target_at p word ≡ target_of p path
-target_read p word path is = by_path (path_of word) is where
+-- the path that was read of a word, beside the component that it ends at
+pub spot_read : (p : Program) (word : Text) (path : Path) (target : Option ℕ) → Some path ≡ option_map held_path (path_of word)
+    → target ≡ target_of p path → Some (record { path = path; target = target }) ≡ spot_of p word
+spot_read p word path target is ends = by_path (path_of word) is where
   by_path : (o : Option Path) → Some path ≡ option_map held_path o
-      → option_and_then (λ (spot : Spot). spot.target) (option_map (λ q. spot_at p q) o) ≡ target_of p path
-  by_path None e = cc
-  by_path (Some q) e = let same : path ≡ held_path q = cc in sym (ap (λ r. target_of p r) same ∙ target-held p q)
-
--- the path that was read of a word, beside the component that the word's path ends at
-pub spot_read : (p : Program) (word : Text) (path : Path) (target : Option ℕ) → IsRead word path → target ≡ target_at p word
-    → Some (record { path = path; target = target }) ≡ spot_of p word
-spot_read p word path target is ends = by_path (path_of word) is ends where
-  by_path : (o : Option Path) → Some path ≡ option_map held_path o
-      → target ≡ option_and_then (λ (spot : Spot). spot.target) (option_map (λ q. spot_at p q) o)
       → Some (record { path = path; target = target }) ≡ option_map (λ q. spot_at p q) o
-  by_path None e t = cc
-  by_path (Some q) e t = let same : path ≡ held_path q = cc in rw (same, t) refl
-
--- the same of a path that was looked up
-pub spot_new : (p : Program) (word : Text) (path : Path) (target : Option ℕ) → IsRead word path → target ≡ target_of p path
-    → Some (record { path = path; target = target }) ≡ spot_of p word
-spot_new p word path target is ends = spot_read p word path target is (ends ∙ sym (target_read p word path is))
-
-pub target_new : (p : Program) (word : Text) (path : Path) (target : Option ℕ) → IsRead word path → target ≡ target_of p path
-    → target ≡ target_at p word
-target_new p word path target is ends = ends ∙ sym (target_read p word path is)
+  by_path None e = cc
+  by_path (Some q) e =
+      let same : path ≡ held_path q = cc in
+      let there : target ≡ target_of p q = ends ∙ ap (λ r. target_of p r) same ∙ target-held p q in
+      rw (same, there) refl

@@ -111,14 +111,6 @@ spot_at p path = record { path = held_path path; target = target_of p path }
 abbrev pub spot_of : Program → Text → Option Spot
 spot_of p word = option_map (λ path. spot_at p path) (written_path word)
 
--- the component that the path of a word ends at
-abbrev pub target_at : Program → Text → Option ℕ
-target_at p word = option_and_then (λ spot. spot.target) (spot_of p word)
-
--- a path is what is read of this word
-abbrev pub IsRead : Text → Path → Type 0
-IsRead word path = Some path ≡ option_map held_path (written_path word)
-
 -- what the words of a dispatch name: a lane, an instance and a hook
 abbrev pub place_of : Program → (lane path hook : Text) → Option Place
 place_of p l w h = Some (λ lane path name. record { lane = lane; spot = spot_at p path; hook = name }) ◂ lane_of l ◂ written_path w ◂ lower_of h

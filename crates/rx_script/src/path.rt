@@ -105,30 +105,13 @@ pub(crate) fn read_path(alloc: Global, word: &[u8]) -> Result<Option<Path>, Allo
         return Ok(None);
     };
     let parts = vec![in alloc; (root, 0)]?;
-    match rest {
-        Some(rest) => Ok(push_parts(alloc, parts, rest)?.map(|parts| Path { parts })),
-        None => Ok(Some(Path { parts })),
+    let Some(rest) = rest else {
+        return Ok(Some(Path::new(alloc, parts)?));
+    };
+    match push_parts(alloc, parts, rest)? {
+        Some(parts) => Ok(Some(Path::new(alloc, parts)?)),
+        None => Ok(None),
     }
-}
-
-/// The same parts of a path once more.
-fn copy_parts(alloc: Global, parts: &[(Name, u64)]) -> Result<Vec<(Name, u64)>, AllocError>
-    ensures { IfOk result (λ copies. copies.items ≡ parts.now) }
-{
-    let mut copies = Vec::with_capacity(alloc, parts.len())?;
-    for part in parts {
-        let name = Name::new(alloc, part.0.text())?;
-        copies.push_reserved((name, part.1));
-    }
-    Ok(copies)
-}
-
-/// The same path once more.
-pub(crate) fn copy_path(alloc: Global, path: &Path) -> Result<Path, AllocError>
-    ensures { IfOk result (λ copy. copy ≡ path.now) }
-{
-    let parts = copy_parts(alloc, path.parts.as_slice())?;
-    Ok(Path { parts })
 }
 
 /// The greatest number of an instance in a path.
@@ -147,5 +130,5 @@ pub(crate) fn is_path_in_bounds(checked: &Checked, path: &Path) -> bool
     ensures { result ≡ path_in_bounds checked.now path.now }
 {
     let greatest = greatest_place(checked);
-    path.parts.iter().all(|part| part.1 <= greatest)
+    path.parts().iter().all(|part| part.1 <= greatest)
 }

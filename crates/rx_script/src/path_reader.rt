@@ -2,7 +2,7 @@
 ghost use Rattle.std.specs.Prelude.{◌≡◌, IfOk, bytes_eq};
 ghost use Rattle.rx_script.specs.Readings.{spot_of};
 
-use crate::path::{copy_path, read_path};
+use crate::path::read_path;
 use crate::targets::target;
 use rx_check::Checked;
 use rx_step::Path;
@@ -16,6 +16,19 @@ pub(crate) struct Spot {
     pub(crate) target: Option<u32>,
 }
 
+impl Spot {
+    // The same, with the path by one handle more.
+    fn copy(&self) -> Result<Spot, AllocError>
+        ensures { IfOk result (λ spot. spot ≡ self.now) }
+    {
+        let path = self.path.copy()?;
+        Ok(Spot {
+            path,
+            target: self.target,
+        })
+    }
+}
+
 // Whether two words have the same bytes. Words of long paths are compared many bytes at once.
 fn is_same_word(one: &[u8], other: &[u8]) -> bool
     ensures { result ≡ bytes_eq one.now other.now }
@@ -25,24 +38,21 @@ fn is_same_word(one: &[u8], other: &[u8]) -> bool
 
 /// What reads the paths of a script's lines. Contracts see it as the program whose components they name.
 ///
-/// Line after line often names the same instance. So a path whose word comes again is looked up once, and is copied from
-/// the third time on; one that comes once is not copied.
+/// Line after line often names the same instance. So a path whose word comes again is not read again.
 #[derive(Drop)]
 pub(crate) struct PathReader<'a> {
     checked: &'a Checked,
     /// The word of the last path.
     word: &'a [u8],
-    /// The component that the last path ends at.
-    target: Option<u32>,
-    /// The last path, if its word came twice.
-    kept: Option<Path>,
+    /// What was read of it, if there was one.
+    last: Option<Spot>,
 }
 
 impl<'a> Model for PathReader<'a> {
-    ghost use Rattle.std.specs.Prelude.{◌≡◌, IfSome};
+    ghost use Rattle.std.specs.Prelude.{◌≡◌, Some, IfSome};
     ghost use Rattle.rx_ast.specs.Syntax as syntax;
     ghost use Rattle.rx_ast.specs.ProgramCodes.{program_code};
-    ghost use Rattle.rx_script.specs.Readings.{IsRead, target_at};
+    ghost use Rattle.rx_script.specs.Readings.{spot_of};
 
     ghost Value = { syntax.Program };
 
@@ -50,7 +60,7 @@ impl<'a> Model for PathReader<'a> {
 
     ghost view = { λ r. r.checked.now };
 
-    ghost invariant = { λ r. (r.target ≡ target_at r.checked.now r.word.now) × IfSome r.kept (λ path. IsRead r.word.now path) };
+    ghost invariant = { λ r. IfSome r.last (λ spot. Some spot ≡ spot_of r.checked.now r.word.now) };
 }
 
 impl<'a> PathReader<'a> {
@@ -61,8 +71,7 @@ impl<'a> PathReader<'a> {
         PathReader {
             checked,
             word: &[],
-            target: None,
-            kept: None,
+            last: None,
         }
     }
 
@@ -74,7 +83,7 @@ impl<'a> PathReader<'a> {
     }
 
     // The path that a word is, another than the last.
-    #[tactic(auto, using(crate::proofs::Spots::spot_none, crate::proofs::Spots::spot_new, crate::proofs::Spots::target_new))]
+    #[tactic(auto, using(crate::proofs::Spots::spot_none, crate::proofs::Spots::spot_read))]
     fn read_other(&mut self, alloc: Global, word: &'a [u8]) -> Result<Option<Spot>, AllocError>
         ensures read { IfOk result (λ spot. spot ≡ spot_of self.old word.now) }
         ensures same { self.new ≡ self.old }
@@ -83,14 +92,15 @@ impl<'a> PathReader<'a> {
             return Ok(None);
         };
         let target = target(self.checked, &path);
+        let spot = Spot { path, target };
+        let last = spot.copy()?;
         self.word = word;
-        self.target = target;
-        self.kept = None;
-        Ok(Some(Spot { path, target }))
+        self.last = Some(last);
+        Ok(Some(spot))
     }
 
     /// The path that a word is.
-    #[tactic(auto, using(crate::proofs::Spots::spot_none, crate::proofs::Spots::spot_read, crate::proofs::Spots::word_same))]
+    #[tactic(auto, using(crate::proofs::Spots::word_same))]
     pub(crate) fn read(&mut self, alloc: Global, word: &'a [u8]) -> Result<Option<Spot>, AllocError>
         ensures read { IfOk result (λ spot. spot ≡ spot_of self.old word.now) }
         ensures same { self.new ≡ self.old }
@@ -98,15 +108,9 @@ impl<'a> PathReader<'a> {
         if !is_same_word(word, self.word) {
             return self.read_other(alloc, word);
         }
-        let target = self.target;
-        if let Some(path) = &self.kept {
-            let path = copy_path(alloc, path)?;
-            return Ok(Some(Spot { path, target }));
+        match &self.last {
+            Some(spot) => Ok(Some(spot.copy()?)),
+            None => self.read_other(alloc, word),
         }
-        let Some(path) = read_path(alloc, word)? else {
-            return Ok(None);
-        };
-        self.kept = Some(copy_path(alloc, &path)?);
-        Ok(Some(Spot { path, target }))
     }
 }

@@ -24,7 +24,7 @@ fn target_behind(checked: &Checked, root: u32, parts: &[(Name, u64)]) -> Option<
 pub(crate) fn target(checked: &Checked, path: &Path) -> Option<u32>
     ensures { result ≡ target_of checked.now path.now }
 {
-    match path.parts.as_slice() {
+    match path.parts() {
         [] => None,
         [first, rest @ ..] => {
             if first.0.text() != "App" {

@@ -1,12 +1,11 @@
-use Rattle.std.proofs.Common.{◌≡◌, true, Some, refl, sym, ap, ◌∙◌, subst, inr}
+use Rattle.std.proofs.Common.{◌≡◌, true, Some, refl, sym, ap, ◌∙◌, inr}
 use Rattle.rx_lists.specs.Shapes.{first}
 use Rattle.rx_links.specs.Drafts.{kids_of}
-use Rattle.rx_links.specs.Readers.{list_from, rest_of}
+use Rattle.rx_links.specs.Readers.{rest_of}
 use Rattle.rx_fiber.specs.Fibers.{Fiber}
 use Rattle.rx_ways.specs.Ways.{is_way}
 use Rattle.rx_hook_store.specs.Store.{kept_hooks}
-use Rattle.rx_causes.specs.Marks.{begun_mark, is_free, IsFreeOver}
-use Rattle.rx_causes.specs.Idle.{HasNoCauseAt}
+use Rattle.rx_causes.specs.Marks.{is_free}
 use Rattle.rx_causes.proofs.Free.{free_here}
 use Rattle.rx_causes.proofs.idle.leads_to_cause.Goals as goal
 

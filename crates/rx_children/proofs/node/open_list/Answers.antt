@@ -6,21 +6,21 @@ use Rattle.rx_fiber.specs.OldLists.{matched}
 use Rattle.rx_children.proofs.Nodes.{still_made, made_new, has_list}
 use Rattle.rx_children.proofs.node.open_list.Goals as goal
 
-pub set_stage-requires : goal.set_stage-requires
-set_stage-requires c =
+pub give-requires : goal.give-requires
+give-requires c =
     still_made (as_matched c.args.visible c.args.generation) c.args.tree.now c.make_children.new.tree c.args.tree.now c.args.at c.args.first_old (stage_seen c.args.stage) c.args.elements.now (matched (list_from c.args.tree.now.current c.args.first_old) c.args.elements.now) c.requires.beside c.in_ok-make_children.ensures.made c.place_facts.ensures
 
 pub first_child-requires : goal.first_child-requires
 first_child-requires c =
-    inr (made_new (as_matched c.args.visible c.args.generation) c.args.tree.now c.make_children.new.tree c.set_stage.new.tree c.args.at c.args.first_old (stage_seen c.args.stage) c.args.elements.now (matched (list_from c.args.tree.now.current c.args.first_old) c.args.elements.now) c.requires.beside c.in_ok-make_children.ensures.made
-    c.place_facts.ensures c.in_ok-set_stage.ensures.stage c.place_facts-2.ensures)
+    inr (made_new (as_matched c.args.visible c.args.generation) c.args.tree.now c.make_children.new.tree c.give.new.self c.args.at c.args.first_old (stage_seen c.args.stage) c.args.elements.now (matched (list_from c.args.tree.now.current c.args.first_old) c.args.elements.now) c.requires.beside c.in_ok-make_children.ensures.made
+    c.place_facts.ensures c.give.ensures c.place_facts-2.ensures)
 
 pub returns-clause-opened : goal.returns-clause-opened
 returns-clause-opened c =
-    has_list (as_matched c.args.visible c.args.generation) c.args.tree.now c.make_children.new.tree c.set_stage.new.tree c.args.at c.args.first_old (stage_seen c.args.stage) c.args.elements.now
+    has_list (as_matched c.args.visible c.args.generation) c.args.tree.now c.make_children.new.tree c.give.new.self c.args.at c.args.first_old (stage_seen c.args.stage) c.args.elements.now
     (matched (list_from c.args.tree.now.current c.args.first_old) c.args.elements.now) c.requires.beside c.in_ok-make_children.ensures.made
-    c.place_facts.ensures c.in_ok-set_stage.ensures.stage c.place_facts-2.ensures c.first_child.result
+    c.place_facts.ensures c.give.ensures c.place_facts-2.ensures c.first_child.result
     (c.first_child.ensures.made
-    (made_new (as_matched c.args.visible c.args.generation) c.args.tree.now c.make_children.new.tree c.set_stage.new.tree c.args.at c.args.first_old (stage_seen c.args.stage) c.args.elements.now
+    (made_new (as_matched c.args.visible c.args.generation) c.args.tree.now c.make_children.new.tree c.give.new.self c.args.at c.args.first_old (stage_seen c.args.stage) c.args.elements.now
     (matched (list_from c.args.tree.now.current c.args.first_old) c.args.elements.now) c.requires.beside c.in_ok-make_children.ensures.made
-    c.place_facts.ensures c.in_ok-set_stage.ensures.stage c.place_facts-2.ensures))
+    c.place_facts.ensures c.give.ensures c.place_facts-2.ensures))
