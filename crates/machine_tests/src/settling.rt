@@ -9,7 +9,7 @@ use rx_elem::{Element, ElementKind};
 use rx_hook_store::HookStore;
 use rx_lane::{Lane, Lanes};
 use rx_node::{Instance, Mark, Node};
-use rx_settle::settle_hooks;
+use rx_settle::{settle_all, settle_hooks};
 use std::alloc::{AllocError, Global};
 use std::rc::Rc;
 use std::test::Fail;
@@ -60,16 +60,21 @@ fn a_new_instance_has_its_hooks(rt: HostRuntime) -> Result<(), Fail> {
     // What is known of a program that is accepted.
     let _program = checked.program();
     let tree = first_tree(alloc)?;
-    let mut store = HookStore::new(alloc);
     let lanes = Lanes::one(Lane::Default);
     let cut = Cut {
         updates: 0,
         resolutions: 0,
     };
-    settle_hooks(
-        alloc, &mut store, &checked, None, &tree, None, &tree, 1, lanes, cut,
-    )?;
+    let mut store = HookStore::new(alloc);
+    let settled = settle_hooks(alloc, &mut store, &checked, None, &tree, 1, lanes, cut)?;
+    if !settled {
+        panic!(rt; "nothing is left out");
+    }
     let value = store.committed(1, 0);
+    assert_eq!(rt; value, Int::of(5));
+    let mut whole = HookStore::new(alloc);
+    settle_all(alloc, &mut whole, &checked, None, &tree, 1, lanes, cut)?;
+    let value = whole.committed(1, 0);
     assert_eq!(rt; value, Int::of(5));
     Ok(())
 }

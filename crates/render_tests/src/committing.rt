@@ -7,8 +7,10 @@ ghost use Rattle.host_laws.specs.Commits.{IsCommit, TextsAreLeaves};
 ghost use Rattle.rx_pruned.specs.Besides.{IsBeside};
 
 use rx_base::{Ints, Name, Str};
-use rx_commit::Shown;
+use rx_changes::changes_between;
+use rx_commit::{Shown, deferral};
 use rx_elem::{EffectRecord, Element, ElementKind};
+use rx_host_ops::hosts;
 use rx_lane::{Lane, Lanes};
 use rx_node::{Instance, Mark, Node};
 use rx_pruned::Beside;
@@ -64,15 +66,13 @@ fn first_tree(alloc: Global) -> Result<Node, AllocError>
 }
 
 // A first tree, beside which there is none.
-fn beside_none(tree: Node) -> Result<Beside, AllocError>
-    ensures beside { IfOk result (λ b. IsBeside None b) }
-    ensures tree { IfOk result (λ b. b.tree ≡ tree) }
+fn beside_none(tree: Node) -> Beside
+    ensures { IsBeside None tree result }
 {
-    Ok(Beside {
+    Beside {
         pruned_old: None,
-        pruned_new: tree.copy()?,
-        tree,
-    })
+        pruned_new: tree,
+    }
 }
 
 #[test]
@@ -81,15 +81,17 @@ fn a_tree_is_committed(rt: HostRuntime) -> Result<(), Fail> {
     let mut shown = Shown::new(alloc);
     let tree = first_tree(alloc)?;
     let lanes = Lanes::one(Lane::Default);
-    let beside = beside_none(tree)?;
-    assert!(rt; shown.outcome(alloc, &beside, lanes)?.is_none());
-    let prepared = shown.prepare(alloc, &beside)?;
+    let all = hosts(alloc, Some(&tree))?;
+    let beside = beside_none(tree);
+    assert!(rt; deferral(alloc, &beside, lanes)?.is_none());
+    let pruned = beside.pruned_old.as_ref();
+    let changes = changes_between(alloc, pruned, &beside.pruned_new)?;
+    let prepared = shown.prepare(alloc, &beside, changes, &all)?;
     let mut log = Report::new(alloc, false, true);
     prepared.write(&mut log, 1, lanes, 1, 1)?;
     shown.commit(prepared);
     shown.flush_passive(&mut log)?;
     shown.write_tree(&mut log)?;
-    assert!(rt; shown.tree().is_some());
     assert!(rt;
         log.bytes()
             == b"commit 1 Default\nop create #1 p\nop place #1 under #0 at end\nlayout + [1] \"shown\"\npassive + [1] \"shown\"\ntree\n  p\n".as_slice()

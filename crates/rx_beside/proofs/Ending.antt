@@ -1,24 +1,28 @@
--- What two lists are beside each other once they are walked, and what their nodes are then.
+-- What two matched lists are beside each other once they are walked, and what the nodes over two lists are then.
 use Rattle.std.proofs.Common.{◌≡◌, ℕ, zero, suc, ◌+◌, ◌<◌, ◌≤◌, Bool, true, false, ◌||◌, List, [], ◌∷◌, ◌++◌, length, get_or, take, map, refl, sym, ap, ◌∙◌, subst, arith, Option, Some, None}
-use Rattle.std.specs.Prelude.{slice_get, nat_eq, position, option_and_then, if◌then◌else◌}
+use Rattle.std.specs.Prelude.{slice_get, nat_eq, position, option_and_then}
 use Rattle.std.specs.List.{zip}
-use Rattle.std.specs.Option.{option_map_or}
+use Rattle.std.specs.Option.{option_flatten, option_map_or}
 use Rattle.std.proofs.lemmas.Bool.Decides.{Decides-eqb}
 use Rattle.std.proofs.lemmas.List.{length-map, length-take-le, map-append, take_all, take_more}
 use Rattle.std.proofs.lemmas.Option.{slice_get-get_or}
 use Rattle.rx_elem.specs.Elements.{Element}
 use Rattle.rx_elem.specs.Identity.{identities, identified, is_same_child, is_reused, old_places, moves, moves_after}
-use Rattle.rx_elem.specs.Trees.{Mark, Node, node, Forest, forest, element_of, elements_in, mark_of, children_of, fallback_of, is_host}
+use Rattle.rx_elem.specs.Trees.{Mark, Node, node, Forest, forest, elements_in}
 use Rattle.rx_elem.specs.Trees as trees
 use Rattle.rx_elem.specs.Compare.{pasts, node_at}
+use Rattle.rx_node.proofs.Listing.{places-forest}
+use Rattle.rx_links.specs.Drafts.{Trees}
+use Rattle.rx_fiber.specs.Fibers.{Fiber}
 use Rattle.rx_keys.proofs.Distinct.{identified_length, places_apart}
+use Rattle.rx_read.specs.Lists.{list_of}
+use Rattle.rx_read.specs.Places.{first_node}
 use Rattle.rx_pruned.specs.Pruned.{GoesOn, displaced_below, Pruned, whole, cut, inside, PrunedIn}
 use Rattle.rx_pruned.specs.Pruned as pruned
 use Rattle.rx_compare.specs.Matched.{IsMatched}
 use Rattle.rx_keys.specs.declared.matching.Matching.{Matching}
-use Rattle.rx_beside.specs.declared.lists.PrunedNodes.{PrunedNodes}
-use Rattle.rx_beside.specs.Parts.{old_part, new_part, old_slot, new_slot}
-use Rattle.rx_beside.specs.Slots.{IsSlot, kept, changed, replaced, AreLists, IsLeft, left_out, as_they_are, without_some, in_place}
+use Rattle.rx_beside.specs.Slots.{IsSlot, changed, fiber_in, replaced, with_gone, AreLists, left_out, without_some, in_place}
+use Rattle.rx_beside.proofs.Gone.{replaced_there}
 use Rattle.rx_beside.proofs.Walking.{pasts_by, pasts_are, Walked, walked_more}
 
 -- Where new children were
@@ -84,38 +88,6 @@ all_walked d os ts ps qs es places moved w te p m =
     (subst (λ l. PrunedIn d l (forest ts) (pasts (forest ps) (elements_in (forest ts))) (forest qs)) (past_lists os (elements_in (forest ts)) (elements_in (forest os)) places moved refl q m)
     (subst (λ l. PrunedIn d (pasts_by (node_at (forest os)) places moved) (forest ts) l (forest qs)) (past_lists ps (elements_in (forest ts)) (elements_in (forest os)) places moved w.elements q m) w.pruned))
 
--- The nodes over them
-
-pub lists_pruned : (d : Bool) (e f : Element) (m w : Mark) (os ns ps qs : Forest) → GoesOn m w → AreLists (displaced_below d w) os ns ps qs
-    → Pruned d (node e m os trees.none) (node f w ns trees.none) (node e m ps trees.none) (node f w qs trees.none)
-lists_pruned d e f m w os _ _ _ g (left_out n) = cut g n
-lists_pruned d e f m w os ns _ _ g as_they_are = whole
-lists_pruned d e f m w os ns ps qs g (without_some k h) = inside g k h
-lists_pruned d e f m w os ns ps qs g (in_place h) = pruned.in_place g h
-
-pub pair_pruned : (d : Bool) (o t p q : Node) (f : Element) (w : Mark) (os ns ps qs : Forest) → GoesOn (mark_of o) w → AreLists (displaced_below d w) os ns ps qs
-    → os ≡ children_of o → fallback_of o ≡ trees.none → t ≡ node f w ns trees.none → p ≡ node (element_of o) (mark_of o) ps trees.none → q ≡ node f w qs trees.none
-    → Pruned d o t p q
-pair_pruned d (node e m cs fs) t p q f w os ns ps qs g h same gone te pe qe =
-    rw (te, pe, qe, gone) (lists_pruned d e f m w cs ns ps qs g (subst (λ x. AreLists (displaced_below d w) x ns ps qs) same h))
-
--- a node that stays, with its list left out
-pub bare_pruned : (d : Bool) (o p q : Node) → p ≡ q → q ≡ node (element_of o) (mark_of o) trees.none trees.none
-    → GoesOn (mark_of o) (mark_of o) → displaced_below d (mark_of o) ≡ false → fallback_of o ≡ trees.none → Pruned d o o p q
-bare_pruned d (node e m ns fs) p q pe qe g h gone = rw (pe, qe, gone) (cut g h)
-
--- below a node that did not move nothing did
-pub none_below : (d : Bool) (m : Mark) → d ≡ false → displaced_below d m ≡ false
-none_below d m e = rw e (by_host (is_host m))
-  where
-    by_host : (b : Bool) → (if b then false else false) ≡ false
-    by_host true = refl
-    by_host false = refl
-
--- both lists are left out
-pub out_by : (d : Bool) (os ns ps qs : Forest) → d ≡ false → ns ≡ os → ps ≡ trees.none → qs ≡ trees.none → AreLists d os ns ps qs
-out_by d os ns ps qs e f g h = rw (f, g, h) (left_out e)
-
 -- How many places there are
 
 elements_length : (xs : List (Option Node)) → length (elements_in (forest xs)) ≡ length xs
@@ -131,66 +103,83 @@ module _ (os : Forest) (f : Option ℕ → Option Node) (fs : List (Option ℕ))
   pub moved_even : length m.moved.items ≡ length fs
   moved_even = ap length h.moved ∙ moves_length (old_places (elements_in os) (elements_in (forest (map f fs)))) ∙ sym (ap length h.places) ∙ places_even
 
+-- The old child at a place
+
+node_at-list : (ns : List (Option Node)) (place : ℕ) → node_at (forest ns) place ≡ option_flatten (slice_get ns place)
+node_at-list ns place = ap (λ xs. option_flatten (slice_get xs place)) (sym (places-forest ns))
+
+pub old_at : (t : Trees Fiber) (fs : List (Option ℕ)) (p : Option ℕ) → option_and_then (node_at (forest (map (λ o. first_node (list_of t o)) fs))) p ≡ first_node (list_of t (fiber_in fs p))
+old_at t fs None = refl
+old_at t fs (Some k) = node_at-list (map (λ o. first_node (list_of t o)) fs) k ∙ at fs k
+  where
+    at : (fs : List (Option ℕ)) (k : ℕ) → option_flatten (slice_get (map (λ o. first_node (list_of t o)) fs) k) ≡ first_node (list_of t (option_flatten (slice_get fs k)))
+    at [] k = refl
+    at (f ∷ fs) zero = refl
+    at (f ∷ fs) (suc k) = at fs k
+
 -- One place more of a made list
 
 module _ (d : Bool) (os : List (Option Node)) (f : Option ℕ → Option Node) (fs : List (Option ℕ)) (m : Matching) (h : IsMatched (forest os) (elements_in (forest (map f fs))) m) where
   pub step : (i : ℕ) → i < length fs → (o p : Option ℕ) (b : Bool) → o ≡ get_or fs i o → p ≡ get_or m.places.items i p → b ≡ get_or m.moved.items i b
-      → (ts ps qs ts2 ps2 qs2 : List (Option Node)) (x r y : Option Node) → ts ≡ map f (take i fs) → Walked d os (take i m.places.items) (take i m.moved.items) ts ps qs
-      → x ≡ f o → IsSlot (d || b) (option_and_then (node_at (forest os)) p) x r y → ts2 ≡ ts ++ x ∷ [] → ps2 ≡ replaced r p ps → qs2 ≡ qs ++ y ∷ []
-      → (ts2 ≡ map f (take (i + 1) fs)) × Walked d os (take (i + 1) m.places.items) (take (i + 1) m.moved.items) ts2 ps2 qs2
-  step i l o p b at_o at_p at_b ts ps qs ts2 ps2 qs2 x r y so_far w is slot et ep eq =
+      → (kept qs kept2 qs2 : List (Option Node)) (r y : Option Node) → length kept ≡ length os
+      → Walked d os (take i m.places.items) (take i m.moved.items) (map f (take i fs)) (with_gone kept os) qs
+      → IsSlot (d || b) (option_and_then (node_at (forest os)) p) (f o) r y → kept2 ≡ replaced r p kept → qs2 ≡ qs ++ y ∷ []
+      → Walked d os (take (i + 1) m.places.items) (take (i + 1) m.moved.items) (map f (take (i + 1) fs)) (with_gone kept2 os) qs2
+  step i l o p b at_o at_p at_b kept qs kept2 qs2 r y even w slot ep eq =
       let lp : i < length m.places.items = omega (arith, places_even (forest os) f fs m h) in
       let lm : i < length m.moved.items = omega (arith, moved_even (forest os) f fs m h) in
-      let fs_is : take (i + 1) fs ≡ take i fs ++ o ∷ [] = take_more fs i o l ∙ ap (λ z. take i fs ++ z ∷ []) (sym at_o) in
+      let fs_is : map f (take (i + 1) fs) ≡ map f (take i fs) ++ f o ∷ [] =
+      ap (map f) (take_more fs i o l ∙ ap (λ z. take i fs ++ z ∷ []) (sym at_o)) ∙ map-append f (take i fs) (o ∷ []) in
       let places_is : take (i + 1) m.places.items ≡ take i m.places.items ++ p ∷ [] =
       take_more m.places.items i p lp ∙ ap (λ z. take i m.places.items ++ z ∷ []) (sym at_p) in
       let moved_is : take (i + 1) m.moved.items ≡ take i m.moved.items ++ b ∷ [] =
       take_more m.moved.items i b lm ∙ ap (λ z. take i m.moved.items ++ z ∷ []) (sym at_b) in
-      let even : length (take i m.places.items) ≡ length (take i m.moved.items) =
+      let same : length (take i m.places.items) ≡ length (take i m.moved.items) =
       length-take-le i m.places.items (omega arith) ∙ sym (length-take-le i m.moved.items (omega arith)) in
       let apart = apart_before (elements_in (forest os)) (elements_in (forest (map f fs))) m.places.items i p h.places lp at_p in
-      let now = walked_more d os (take i m.places.items) (take i m.moved.items) ts ps qs w even b p _ x r y apart refl slot in (
-        et ∙ ap (λ l. l ++ x ∷ []) so_far ∙ ap (λ z. map f (take i fs) ++ z ∷ []) is ∙ sym (ap (map f) fs_is ∙ map-append f (take i fs) (o ∷ [])),
-        rw (places_is, moved_is, et, ep, eq) now,
-      )
+      let now = walked_more d os (take i m.places.items) (take i m.moved.items) (map f (take i fs)) (with_gone kept os) qs w same b p _ (f o) r y apart refl slot in
+      rw (fs_is, places_is, moved_is, ap (λ l. with_gone l os) ep ∙ replaced_there r p kept os even, eq) now
 
   -- All of them are walked.
-  pub done : (i : ℕ) → length fs ≤ i → (ts ps qs all : List (Option Node)) → ts ≡ map f (take i fs) → map f fs ≡ all → Walked d os (take i m.places.items) (take i m.moved.items) ts ps qs
-      → (ts ≡ all) × AreLists d (forest os) (forest ts) (forest ps) (forest qs)
-  done i l ts ps qs all so_far e w =
-      let t : ts ≡ map f fs = so_far ∙ ap (map f) (take_all i fs l) in
+  pub done : (i : ℕ) → length fs ≤ i → (ps qs : List (Option Node)) → Walked d os (take i m.places.items) (take i m.moved.items) (map f (take i fs)) ps qs
+      → AreLists d (forest os) (forest (map f fs)) (forest ps) (forest qs)
+  done i l ps qs w =
+      let t : take i fs ≡ fs = take_all i fs l in
       let p : take i m.places.items ≡ m.places.items = take_all i m.places.items (omega (arith, places_even (forest os) f fs m h)) in
-      let q : take i m.moved.items ≡ m.moved.items = take_all i m.moved.items (omega (arith, moved_even (forest os) f fs m h)) in (
-        t ∙ e,
-        all_walked d os ts ps qs (elements_in (forest (map f fs))) m.places.items m.moved.items
-            (subst (λ a. Walked d os a m.moved.items ts ps qs) p (subst (λ b. Walked d os (take i m.places.items) b ts ps qs) q w))
-            (ap (λ l. elements_in (forest l)) t) h.places (h.moved ∙ sym (ap moves h.places)),
-      )
+      let q : take i m.moved.items ≡ m.moved.items = take_all i m.moved.items (omega (arith, moved_even (forest os) f fs m h)) in
+      all_walked d os (map f fs) ps qs (elements_in (forest (map f fs))) m.places.items m.moved.items
+      (subst (λ a. Walked d os a m.moved.items (map f fs) ps qs) p
+      (subst (λ b. Walked d os (take i m.places.items) b (map f fs) ps qs) q
+      (subst (λ x. Walked d os (take i m.places.items) (take i m.moved.items) (map f x) ps qs) t w)))
+      refl h.places (h.moved ∙ sym (ap moves h.places))
 
--- What stands at a place
+-- both lists are left out
+pub out_by : (d : Bool) (os ns ps qs : Forest) → d ≡ false → ns ≡ os → ps ≡ trees.none → qs ≡ trees.none → AreLists d os ns ps qs
+out_by d os ns ps qs e f g h = rw (f, g, h) (left_out e)
 
-pub slot_by : (d : Bool) (o : Option Node) (a n : Node) (c : Option PrunedNodes) → o ≡ Some a → Pruned d a n (old_part a c) (new_part n c)
-    → IsSlot d o (Some n) (old_slot c) (new_slot (Some n) c)
-slot_by d o a n None e h = kept
-slot_by d o a n (Some p) e h = rw e (changed h)
+-- The nodes over two lists
 
--- what can be left out itself is the old node, without its list on both sides in place of that
-bare_same : (d : Bool) (o x : Option Node) (n p q : Node) → x ≡ Some n → IsLeft d o x
-    → (GoesOn (mark_of n) (mark_of n) → displaced_below d (mark_of n) ≡ false → fallback_of n ≡ trees.none → Pruned d n n p q) → (o ≡ Some n) × Pruned d n n p q
-bare_same d o x n p q e l bare =
-    let same : l.node ≡ n = (let z : Some l.node ≡ Some n = sym l.is ∙ e in cc) in
-    let goes = subst (λ y. GoesOn (mark_of y) (mark_of y)) same l.goes in
-    let alone = subst (λ y. fallback_of y ≡ trees.none) same l.alone in
-    (l.was ∙ ap Some same, bare goes (none_below d (mark_of n) l.still) alone)
+pub lists_pruned : (d : Bool) (e f : Element) (m w : Mark) (os ns ps qs : Forest) → GoesOn m w → AreLists (displaced_below d w) os ns ps qs
+    → Pruned d (node e m os trees.none) (node f w ns trees.none) (node e m ps trees.none) (node f w qs trees.none)
+lists_pruned d e f m w os _ _ _ g (left_out n) = cut g n
+lists_pruned d e f m w os ns ps qs g (without_some k h) = inside g k h
+lists_pruned d e f m w os ns ps qs g (in_place h) = pruned.in_place g h
 
--- the same of what stands at a place
-pub bare_there : (d : Bool) (o x : Option Node) (n p q : Node) → x ≡ Some n → IsLeft d o x
-    → (GoesOn (mark_of n) (mark_of n) → displaced_below d (mark_of n) ≡ false → fallback_of n ≡ trees.none → Pruned d n n p q) → IsSlot d o x (Some p) (Some q)
-bare_there d o x n p q e l bare = let (was, is) = bare_same d o x n p q e l bare in rw (was, e) (changed is)
+pub whole_by : (d : Bool) (x y p q : Node) (o n : Option Node) → Some p ≡ o → Some q ≡ n → o ≡ Some x → n ≡ Some y → Pruned d x y p q
+whole_by d x y p q o n e f g h =
+    let a : Some p ≡ Some x = e ∙ g in
+    let b : Some q ≡ Some y = f ∙ h in
+    let k : p ≡ x = cc in
+    let l : q ≡ y = cc in
+    rw (k, l) whole
 
--- the same of a node
-pub bare_left : (d : Bool) (o n p q : Node) → IsLeft d (Some o) (Some n)
-    → (GoesOn (mark_of n) (mark_of n) → displaced_below d (mark_of n) ≡ false → fallback_of n ≡ trees.none → Pruned d n n p q) → Pruned d o n p q
-bare_left d o n p q l bare =
-    let (was, is) = bare_same d (Some o) (Some n) n p q refl l bare in
-    let same : n ≡ o = (let z : Some o ≡ Some n = was in cc) in subst (λ y. Pruned d y n p q) same is
+-- what stands at a place
+pub slot_by : (d : Bool) (x y : Option Node) (o n p q : Node) → x ≡ Some o → y ≡ Some n → Pruned d o n p q → IsSlot d x y (Some p) (Some q)
+slot_by d x y o n p q e f h = rw (e, f) (changed h)
+
+pub nodes_pruned : (d : Bool) (x y p q : Node) (e f : Element) (m w : Mark) (os ns ps qs : Forest) → GoesOn m w → AreLists (displaced_below d w) os ns ps qs
+    → Some (node e m os trees.none) ≡ Some x → Some (node f w ns trees.none) ≡ Some y → p ≡ node e m ps trees.none → q ≡ node f w qs trees.none → Pruned d x y p q
+nodes_pruned d x y p q e f m w os ns ps qs g h ex ey ep eq =
+    let a : x ≡ node e m os trees.none = cc in
+    let b : y ≡ node f w ns trees.none = cc in
+    rw (a, b, ep, eq) (lists_pruned d e f m w os ns ps qs g h)

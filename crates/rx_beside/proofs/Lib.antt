@@ -1,8 +1,9 @@
-pub mod Ascending
 pub mod Standing
 pub mod Here
 pub mod Walking
-pub mod Ending
 pub mod Roots
-pub mod Staying
 pub mod Keeping
+pub mod Placing
+pub mod Gone
+pub mod Ending
+pub mod Staying

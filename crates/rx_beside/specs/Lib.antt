@@ -1,4 +1,4 @@
 pub mod Slots
 pub mod Children
 pub mod Alike
-pub mod Parts
+pub mod Pairs

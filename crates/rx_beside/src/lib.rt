@@ -5,5 +5,7 @@ mod beside;
 mod children;
 mod lists;
 mod pairs;
+mod places;
+mod taking;
 
 pub use beside::read_beside;

@@ -1,8 +1,8 @@
 -- What is compared without the lists that stayed the same.
-use Rattle.std.specs.Prelude.{length, ◌∷◌, refl}
-use Rattle.std.proofs.Common.{◌≡◌, ℕ, List, [], Option, Some, None, sym, ap, subst, ◌∙◌}
+use Rattle.std.specs.Prelude.{length, ◌∷◌, refl, filter_map}
+use Rattle.std.proofs.Common.{◌≡◌, ℕ, false, eqb, List, [], Option, Some, None, sym, ap, subst, ◌∙◌}
 use Rattle.rx_elem.specs.Trees.{Node, node, Forest, none, vacant, child}
-use Rattle.rx_elem.specs.Compare.{Compared, changes, compare_trees}
+use Rattle.rx_elem.specs.Compare.{changes, compare_trees}
 use Rattle.rx_forest.specs.declared.op.HostOp.{HostOp}
 use Rattle.rx_forest.specs.Hosts.{Host, hosts}
 use Rattle.rx_forest.specs.HostOps.{ops_between, host_ops, placed_hosts}
@@ -18,13 +18,15 @@ use Rattle.prune_laws.proofs.OutcomeAlike.{layout_alike, passive_alike, committe
 use Rattle.prune_laws.specs.Staying.{AreOfCommit}
 use Rattle.rx_host_ops.specs.Among.{ops_among}
 use Rattle.end_laws.specs.Trimmed.{trimmed, trimmed_in, trimmed_if, vacant_before}
+use Rattle.end_laws.proofs.Compared.{trees_same}
+use Rattle.end_laws.proofs.Logs.{layout_same, passive_same}
+use Rattle.end_laws.proofs.Outcomes.{caught_same, ops_same}
 use Rattle.end_laws.proofs.Read.{hosts_same}
 use Rattle.rx_base.specs.Awaits.{Awaits}
 use Rattle.rx_lane.specs.Lanes.{Lanes}
-use Rattle.std.specs.Prelude.{filter_map}
 use Rattle.rx_meaning.specs.Outcome.{caught_anew, newly_caught, outcome}
-use Rattle.rx_commit.specs.Shown.{outcome_as}
-use Rattle.rx_commit.proofs.Committed.{caught-trimmed, layout-trimmed, passive-trimmed, outcome-trimmed}
+use Rattle.rx_commit.specs.Shown.{TellsWhere, outcome_as}
+use Rattle.rx_commit.proofs.Committed.{outcome-trimmed}
 
 vacant-present : (ns : Forest) → AllHaveNoNull ns → AllHaveNoNull (vacant_before ns)
 vacant-present none h = tt
@@ -41,82 +43,94 @@ mutual
   trimmed_in-present (child n ns) h = (trimmed-present n h.0, trimmed_in-present ns h.1)
 
 -- no node of a trimmed tree is one of null, if none of the tree is
-pub if-present : (tree o : Option Node) → o ≡ trimmed_if tree → IfHasNoNull tree → IfHasNoNull o
-if-present None o e h = subst IfHasNoNull (sym e) h
-if-present (Some n) o e h = subst IfHasNoNull (sym e) (trimmed-present n h)
+if-present : (old : Option Node) → IfHasNoNull old → IfHasNoNull (trimmed_if old)
+if-present None h = h
+if-present (Some n) h = trimmed-present n h
 
-distinct-if : (tree : Option Node) → IfSound tree → AreDistinct (hosts tree)
+distinct-if : (old : Option Node) → IfSound old → AreDistinct (hosts old)
 distinct-if None h = tt
 distinct-if (Some n) h = h.distinct
 
 -- the hosts of trimmed trees are those of a commit
-pub of-commit : (tree : Option Node) (next : Node) (o : Option Node) (n : Node) → o ≡ trimmed_if tree → n ≡ trimmed next → IsCommit tree next → AreOfCommit o n
-of-commit tree next o n e f h =
-    let old : hosts tree ≡ hosts o = sym (ap hosts e ∙ hosts_same tree) in
-    let new : hosts (Some next) ≡ hosts (Some n) = sym (ap (λ (t : Node). hosts (Some t)) f ∙ hosts_same (Some next)) in
+of-commit : (old : Option Node) (new : Node) → IsCommit old new → AreOfCommit (trimmed_if old) (trimmed new)
+of-commit old new h =
+    let before : hosts old ≡ hosts (trimmed_if old) = sym (hosts_same old) in
+    let after : hosts (Some new) ≡ hosts (Some (trimmed new)) = sym (hosts_same (Some new)) in
     record {
-      old_distinct = subst AreDistinct old (distinct-if tree h.old_sound);
-      new_distinct = subst AreDistinct new h.new_sound.distinct;
-      kinds = subst (λ (hs : List Host). KeepKinds hs (hosts (Some n))) old (subst (KeepKinds (hosts tree)) new h.kinds);
+      old_distinct = subst AreDistinct before (distinct-if old h.old_sound);
+      new_distinct = subst AreDistinct after h.new_sound.distinct;
+      kinds = subst (λ (hs : List Host). KeepKinds hs (hosts (Some (trimmed new)))) before (subst (KeepKinds (hosts old)) after h.kinds);
     }
 
--- the operations between the hosts of the trees without those lists, if those hosts are placed among all that these trees tell
-pub ops-of-all : (o : Option Node) (b : Beside) (c : Compared) (placed : List ℕ) (ops : List HostOp) (p : Option Node) → IsBeside o b → c ≡ compare_trees b.pruned_old b.pruned_new
-    → placed ≡ placed_hosts (changes c) → p ≡ b.pruned_old → ops ≡ ops_among (hosts p) (hosts (Some b.pruned_new)) (hosts (Some b.tree)) placed
-    → IfHasNoNull o → AreOfCommit o b.tree → ops ≡ host_ops o b.tree
-ops-of-all o b c placed ops p beside e f same g present of =
-    g
-    ∙ ap (λ (x : Option Node). ops_among (hosts x) (hosts (Some b.pruned_new)) (hosts (Some b.tree)) placed) same
-    ∙ ap (ops_among (hosts b.pruned_old) (hosts (Some b.pruned_new)) (hosts (Some b.tree))) (f ∙ ap (λ (d : Compared). placed_hosts (changes d)) e ∙ (trees_alike beside present).places)
-    ∙ placed_need_others o b.tree b.pruned_old b.pruned_new beside of
+-- all hosts of a tree are those of the trimmed one
+tells-trimmed : (placed : List ℕ) (all : List Host) (new : Node) → TellsWhere placed all new → TellsWhere placed all (trimmed new)
+tells-trimmed [] all new h = tt
+tells-trimmed (n ∷ ns) all new h = h ∙ sym (hosts_same (Some new))
 
--- what error boundaries catch, by the trees without those lists
-pub caught-of : (tree : Option Node) (next : Node) (o : Option Node) (b : Beside) (c : Compared) → IsBeside o b → c ≡ compare_trees b.pruned_old b.pruned_new
-    → o ≡ trimmed_if tree → b.tree ≡ trimmed next → IfHasNoNull tree → filter_map caught_anew (changes c) ≡ newly_caught tree next
-caught-of tree next o b c beside e f g present =
-    ap (λ (d : Compared). filter_map caught_anew (changes d)) e
-    ∙ (trees_alike beside (if-present tree o f present)).catches
-    ∙ caught-trimmed tree next o b.tree f g
+-- if hosts are placed, these are all hosts of the new tree
+pub all-told : (placed : List ℕ) (all : List Host) (new : Node) → eqb (length placed) 0 ≡ false → TellsWhere placed all new → all ≡ hosts (Some new)
+all-told [] all new some h = absurd (cc some)
+all-told (n ∷ ns) all new some h = h
+
+-- the operations between the hosts that are left, if hosts are placed among all
+pub ops-of-all : (old : Option Node) (new : Node) (b : Beside) (placed : List ℕ) (all : List Host) (ops : List HostOp) (p : Option Node) → IsBeside old new b
+    → placed ≡ placed_hosts (changes (compare_trees b.pruned_old b.pruned_new)) → p ≡ b.pruned_old → all ≡ hosts (Some new)
+    → ops ≡ ops_among (hosts p) (hosts (Some b.pruned_new)) all placed → IfHasNoNull old → AreOfCommit old new → ops ≡ host_ops old new
+ops-of-all old new b placed all ops p beside f same told g present of =
+    g
+    ∙ ap (λ (x : Option Node). ops_among (hosts x) (hosts (Some b.pruned_new)) all placed) same
+    ∙ ap (λ (hs : List Host). ops_among (hosts b.pruned_old) (hosts (Some b.pruned_new)) hs placed) told
+    ∙ ap (ops_among (hosts b.pruned_old) (hosts (Some b.pruned_new)) (hosts (Some new))) (f ∙ (trees_alike beside present).places)
+    ∙ placed_need_others old new b.pruned_old b.pruned_new beside of
 
 -- a list that is empty has nothing in it
 pub none-left : (xs : List ℕ) → length xs ≡ 0 → xs ≡ []
 none-left [] h = refl
 none-left (x ∷ xs) h = cc
 
--- the same if none is placed, by the hosts that are left of the trees without those lists
-pub ops-of-left : (o : Option Node) (b : Beside) (c : Compared) (placed : List ℕ) (ops : List HostOp) (p : Option Node) → IsBeside o b → c ≡ compare_trees b.pruned_old b.pruned_new
-    → placed ≡ placed_hosts (changes c) → placed ≡ [] → p ≡ b.pruned_old → (AreDistinct (hosts p) → ops ≡ ops_between (hosts p) (hosts (Some b.pruned_new)) [])
-    → IfHasNoNull o → AreOfCommit o b.tree → ops ≡ host_ops o b.tree
-ops-of-left o b c placed ops p beside e f empty same is present of =
-    let placed_none : placed_hosts (changes (compare_trees o b.tree)) ≡ [] =
-    sym (trees_alike beside present).places ∙ ap (λ (d : Compared). placed_hosts (changes d)) (sym e) ∙ sym f ∙ empty in
-    is (subst (λ (x : Option Node). AreDistinct (hosts x)) (sym same) (left_distinct o b.tree b.pruned_old b.pruned_new beside of))
+-- the same if none is placed
+pub ops-of-left : (old : Option Node) (new : Node) (b : Beside) (placed : List ℕ) (ops : List HostOp) (p : Option Node) → IsBeside old new b
+    → placed ≡ placed_hosts (changes (compare_trees b.pruned_old b.pruned_new)) → placed ≡ [] → p ≡ b.pruned_old
+    → (AreDistinct (hosts p) → ops ≡ ops_between (hosts p) (hosts (Some b.pruned_new)) []) → IfHasNoNull old → AreOfCommit old new → ops ≡ host_ops old new
+ops-of-left old new b placed ops p beside f empty same is present of =
+    let placed_none : placed_hosts (changes (compare_trees old new)) ≡ [] = sym (trees_alike beside present).places ∙ sym f ∙ empty in
+    is (subst (λ (x : Option Node). AreDistinct (hosts x)) (sym same) (left_distinct old new b.pruned_old b.pruned_new beside of))
     ∙ ap (λ (x : Option Node). ops_between (hosts x) (hosts (Some b.pruned_new)) []) same
-    ∙ staying_need_nothing o b.tree b.pruned_old b.pruned_new beside of placed_none
+    ∙ staying_need_nothing old new b.pruned_old b.pruned_new beside of placed_none
 
--- what is logged in one phase, by the trees without those lists
-pub layout-of : (tree : Option Node) (next : Node) (o : Option Node) (b : Beside) (c : Compared) → IsBeside o b → c ≡ compare_trees b.pruned_old b.pruned_new
-    → o ≡ trimmed_if tree → b.tree ≡ trimmed next → IfHasNoNull tree → layout_log c ≡ layout_log (compare_trees tree next)
-layout-of tree next o b c beside e f g present =
-    ap layout_log e
-    ∙ layout_alike (compare_trees b.pruned_old b.pruned_new) (compare_trees o b.tree) (trees_alike beside (if-present tree o f present))
-    ∙ layout-trimmed tree next o b.tree f g
+-- A commit, by what is left of the trimmed trees
 
--- and in the other
-pub passive-of : (tree : Option Node) (next : Node) (o : Option Node) (b : Beside) (c : Compared) → IsBeside o b → c ≡ compare_trees b.pruned_old b.pruned_new
-    → o ≡ trimmed_if tree → b.tree ≡ trimmed next → IfHasNoNull tree → passive_of c ≡ passive_of (compare_trees tree next)
-passive-of tree next o b c beside e f g present =
-    ap passive_of e
-    ∙ passive_alike (compare_trees b.pruned_old b.pruned_new) (compare_trees o b.tree) (trees_alike beside (if-present tree o f present))
-    ∙ passive-trimmed tree next o b.tree f g
+module _ (old : Option Node) (new : Node) (b : Beside) (beside : IsBeside (trimmed_if old) (trimmed new) b) (present : IfHasNoNull old) where
+  -- the operations on the hosts
+  pub ops-of : (placed : List ℕ) (all : List Host) (ops : List HostOp)
+      → ((o : Option Node) (n : Node) → IsBeside o n b → IfHasNoNull o → AreOfCommit o n → TellsWhere placed all n → ops ≡ host_ops o n)
+      → IsCommit old new → TellsWhere placed all new → ops ≡ host_ops old new
+  ops-of placed all ops is commits tells =
+      is (trimmed_if old) (trimmed new) beside (if-present old present) (of-commit old new commits) (tells-trimmed placed all new tells) ∙ ops_same old new
 
--- what becomes of a render, by the trees without those lists
-pub outcome-of : (lanes : Lanes) (tree : Option Node) (next : Node) (o : Option Node) (b : Beside) (x : Option Awaits) → IsBeside o b
-    → o ≡ trimmed_if tree → b.tree ≡ trimmed next → IfHasNoNull tree → outcome_as b.pruned_new x ≡ outcome lanes b.pruned_old b.pruned_new
-    → outcome_as next x ≡ outcome lanes tree next
-outcome-of lanes tree next o b None beside e f present is =
-    let alike = trees_alike beside (if-present tree o e present) in
-    outcome-trimmed lanes tree next o b.tree None e f (sym (committed_alike lanes o b.pruned_old b.tree b.pruned_new alike (sym is)))
-outcome-of lanes tree next o b (Some a) beside e f present is =
-    let alike = trees_alike beside (if-present tree o e present) in
-    outcome-trimmed lanes tree next o b.tree (Some a) e f (sym (deferred_alike lanes o b.pruned_old b.tree b.pruned_new a alike (sym is)))
+  -- what error boundaries catch
+  pub caught-of : filter_map caught_anew (changes (compare_trees b.pruned_old b.pruned_new)) ≡ newly_caught old new
+  caught-of = (trees_alike beside (if-present old present)).catches ∙ caught_same old new
+
+  -- what is logged in one phase
+  pub layout-of : layout_log (compare_trees b.pruned_old b.pruned_new) ≡ layout_log (compare_trees old new)
+  layout-of =
+      layout_alike (compare_trees b.pruned_old b.pruned_new) (compare_trees (trimmed_if old) (trimmed new)) (trees_alike beside (if-present old present))
+      ∙ ap layout_log (trees_same old new)
+      ∙ layout_same (compare_trees old new)
+
+  -- and in the other
+  pub passive-of : passive_of (compare_trees b.pruned_old b.pruned_new) ≡ passive_of (compare_trees old new)
+  passive-of =
+      passive_alike (compare_trees b.pruned_old b.pruned_new) (compare_trees (trimmed_if old) (trimmed new)) (trees_alike beside (if-present old present))
+      ∙ ap passive_of (trees_same old new)
+      ∙ passive_same (compare_trees old new)
+
+  -- what becomes of the render
+  pub outcome-of : (lanes : Lanes) (x : Option Awaits) → outcome_as b.pruned_new x ≡ outcome lanes b.pruned_old b.pruned_new → outcome_as new x ≡ outcome lanes old new
+  outcome-of lanes None is =
+      outcome-trimmed lanes old new None
+      (sym (committed_alike lanes (trimmed_if old) b.pruned_old (trimmed new) b.pruned_new (trees_alike beside (if-present old present)) (sym is)))
+  outcome-of lanes (Some a) is =
+      outcome-trimmed lanes old new (Some a)
+      (sym (deferred_alike lanes (trimmed_if old) b.pruned_old (trimmed new) b.pruned_new a (trees_alike beside (if-present old present)) (sym is)))

@@ -1,11 +1,10 @@
 -- A prepared commit, and what it makes of what is shown.
-use Rattle.std.proofs.Common.{◌≡◌, Bool, true, false, List, [], ◌∷◌, Option, Some, None, refl, sym, ap, subst, ◌∙◌}
+use Rattle.std.proofs.Common.{◌≡◌, Bool, true, false, List, [], ◌∷◌, Option, Some, None, refl, sym, subst, ◌∙◌}
 use Rattle.std.specs.Prelude.{if◌then◌else◌}
 use Rattle.rx_base.specs.Awaits.{Awaits}
 use Rattle.rx_lane.specs.Lanes.{Lanes, only_transitions}
 use Rattle.rx_elem.specs.Trees.{Node}
-use Rattle.rx_elem.specs.Compare.{Change, compare_trees}
-use Rattle.rx_effect.specs.EffectLog.{layout_log, passive_of}
+use Rattle.rx_elem.specs.Compare.{Change}
 use Rattle.rx_forest.specs.declared.op.HostOp.{HostOp}
 use Rattle.rx_forest.specs.Forests.{HostForest, forest_of, CanBeReplayed, Replays}
 use Rattle.rx_forest.specs.Hosts.{hosts}
@@ -15,38 +14,10 @@ use Rattle.host_laws.proofs.OneResult.{replays_once}
 use Rattle.host_laws.proofs.Replay.{commit_replays}
 use Rattle.host_laws.proofs.Replayable.{commit_made}
 use Rattle.end_laws.specs.Trimmed.{trimmed, trimmed_if}
-use Rattle.end_laws.proofs.Compared.{trees_same}
-use Rattle.end_laws.proofs.Logs.{layout_same, passive_same}
-use Rattle.end_laws.proofs.Outcomes.{ops_same, caught_same, outcome_same}
+use Rattle.end_laws.proofs.Outcomes.{outcome_same}
 use Rattle.end_laws.specs.Outcomes.{trimmed_outcome}
-use Rattle.rx_meaning.specs.Outcome.{commit, defer, all_awaits, newly_caught, newly_hidden, outcome, outcome_by}
+use Rattle.rx_meaning.specs.Outcome.{commit, defer, all_awaits, newly_hidden, outcome, outcome_by}
 use Rattle.rx_commit.specs.Shown.{outcome_as}
-
--- the operations of trimmed trees
-pub ops-trimmed : (old : Option Node) (new : Node) (o : Option Node) (n : Node) → o ≡ trimmed_if old → n ≡ trimmed new → host_ops o n ≡ host_ops old new
-ops-trimmed old new o n e f = ap (λ (t : Option Node). host_ops t n) e ∙ ap (host_ops (trimmed_if old)) f ∙ ops_same old new
-
--- what error boundaries catch of trimmed trees
-pub caught-trimmed : (old : Option Node) (new : Node) (o : Option Node) (n : Node) → o ≡ trimmed_if old → n ≡ trimmed new → newly_caught o n ≡ newly_caught old new
-caught-trimmed old new o n e f = ap (λ (t : Option Node). newly_caught t n) e ∙ ap (newly_caught (trimmed_if old)) f ∙ caught_same old new
-
--- the layout effects of trimmed trees
-pub layout-trimmed : (old : Option Node) (new : Node) (o : Option Node) (n : Node) → o ≡ trimmed_if old → n ≡ trimmed new
-    → layout_log (compare_trees o n) ≡ layout_log (compare_trees old new)
-layout-trimmed old new o n e f =
-    ap (λ (t : Option Node). layout_log (compare_trees t n)) e
-    ∙ ap (λ (t : Node). layout_log (compare_trees (trimmed_if old) t)) f
-    ∙ ap layout_log (trees_same old new)
-    ∙ layout_same (compare_trees old new)
-
--- the passive effects of trimmed trees
-pub passive-trimmed : (old : Option Node) (new : Node) (o : Option Node) (n : Node) → o ≡ trimmed_if old → n ≡ trimmed new
-    → passive_of (compare_trees o n) ≡ passive_of (compare_trees old new)
-passive-trimmed old new o n e f =
-    ap (λ (t : Option Node). passive_of (compare_trees t n)) e
-    ∙ ap (λ (t : Node). passive_of (compare_trees (trimmed_if old) t)) f
-    ∙ ap passive_of (trees_same old new)
-    ∙ passive_same (compare_trees old new)
 
 -- the operations of a commit can be made in the forest of the old tree
 pub made-here : (old : Option Node) (new : Node) (f : HostForest) (ops : List HostOp) → f ≡ forest_of (hosts old) → ops ≡ host_ops old new
@@ -78,12 +49,6 @@ outcome-by lanes new x [] e = outcome-if new x false [] e
 outcome-by lanes new x (c ∷ cs) e = outcome-if new x (only_transitions lanes) (all_awaits (c ∷ cs)) e
 
 -- what becomes of trimmed trees becomes of the trees
-pub outcome-trimmed : (lanes : Lanes) (old : Option Node) (new : Node) (o : Option Node) (n : Node) (x : Option Awaits) → o ≡ trimmed_if old → n ≡ trimmed new
-    → outcome_as n x ≡ outcome lanes o n → outcome_as new x ≡ outcome lanes old new
-outcome-trimmed lanes old new o n x e f is =
-    outcome-by lanes new x (newly_hidden old new)
-    (ap (λ (t : Node). outcome_as t x) (sym f)
-    ∙ is
-    ∙ ap (λ (t : Option Node). outcome lanes t n) e
-    ∙ ap (λ (t : Node). outcome lanes (trimmed_if old) t) f
-    ∙ outcome_same lanes old new)
+pub outcome-trimmed : (lanes : Lanes) (old : Option Node) (new : Node) (x : Option Awaits) → outcome_as (trimmed new) x ≡ outcome lanes (trimmed_if old) (trimmed new)
+    → outcome_as new x ≡ outcome lanes old new
+outcome-trimmed lanes old new x is = outcome-by lanes new x (newly_hidden old new) (is ∙ outcome_same lanes old new)

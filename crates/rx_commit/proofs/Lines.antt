@@ -4,7 +4,8 @@ use Rattle.std.specs.Prelude.{map, if◌then◌else◌}
 use Rattle.rx_lane.specs.declared.lane.Lane.TheVariants as lane
 use Rattle.rx_lane.specs.Lanes.{Lanes, has, lanes_where}
 use Rattle.rx_lane.specs.SetLaws.{has-lanes_where}
-use Rattle.rx_elem.specs.Trees.{Node}
+use Rattle.rx_elem.specs.Elements.{null}
+use Rattle.rx_elem.specs.Trees.{Node, node, none, plain}
 use Rattle.rx_elem.specs.Compare.{compare_trees}
 use Rattle.rx_effect.specs.declared.log.LogLine.{LogLine}
 use Rattle.rx_effect.specs.EffectLog.{Passive, layout_log}
@@ -14,8 +15,8 @@ use Rattle.rx_meaning.specs.Outcome.{newly_caught}
 use Rattle.rx_lines.specs.Lines.{Counts, Line, Written, caught, committed, operated, logged, with_line}
 use Rattle.rx_commit.specs.Shown.{Prepared, Prepares}
 use Rattle.rx_commit.specs.Written.{sync_lines, lines_of}
-use Rattle.rx_writing.specs.Written.{passive_lines, with_lines}
-use Rattle.rx_writing.proofs.Behind.{with_lines-nil, with_lines-append, with_lines-cons}
+use Rattle.rx_writing.specs.Written.{GoesOn, passive_lines, with_lines}
+use Rattle.rx_writing.proofs.Behind.{goes_on-line, with_lines-nil, with_lines-append, with_lines-cons}
 
 -- a set of lanes made anew has the lane Sync if the set has it
 pub sync-anew : (lanes : Lanes) (passive : Passive) → sync_lines lanes passive ≡ sync_lines (lanes_where (has lanes)) passive
@@ -24,6 +25,12 @@ sync-anew lanes passive = ap (λ b. if b then passive_lines passive else []) (sy
 -- a commit without the lane Sync runs no passive effect itself
 pub sync-none : (lanes : Lanes) (passive : Passive) (r : Written) → has lanes lane.Sync ≡ false → r ≡ with_lines r (sync_lines lanes passive)
 sync-none lanes passive r e = sym (with_lines-nil r) ∙ ap (λ b. with_lines r (if b then passive_lines passive else [])) (sym e)
+
+-- a report that got the line of a commit, whatever its tree, went on
+pub goes_on-commit : (r a : Written) (number : ℕ) (lanes : Lanes) (counts : Counts) → ((tree : Node) → a ≡ with_line r (committed number lanes counts tree)) → GoesOn r a
+goes_on-commit r a number lanes counts is =
+    let some = node null plain none none in
+    goes_on-line r a (committed number lanes counts some) (is some)
 
 -- a line, then operations, then what is caught, and then effects
 pub own-parts : (r a b m c : Written) (l : Line) (ops xs : List HostOp) (vs ws : List ℤ) (log ys : List LogLine) → xs ≡ ops → ws ≡ vs → ys ≡ log → a ≡ with_line r l

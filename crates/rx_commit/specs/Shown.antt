@@ -1,33 +1,29 @@
 -- What is shown of a committed tree, and what a commit is prepared to do to it.
-use Rattle.std.specs.Prelude.{◌≡◌, ◌≤◌, ℤ, List, length, Option, Some, None}
+use Rattle.std.specs.Prelude.{◌≡◌, ◌≤◌, ℕ, ℤ, List, [], ◌∷◌, length, Option, Some, None}
 use Rattle.rx_elem.specs.Trees.{Node}
 use Rattle.rx_elem.specs.Compare.{compare_trees}
 use Rattle.rx_effect.specs.declared.log.LogLine.{LogLine}
 use Rattle.rx_effect.specs.EffectLog.{Passive, layout_log, passive_of}
 use Rattle.rx_forest.specs.declared.op.HostOp.{HostOp}
 use Rattle.rx_forest.specs.Forests.{forest_of, CanBeReplayed}
-use Rattle.rx_forest.specs.Hosts.{hosts}
+use Rattle.rx_forest.specs.Hosts.{Host, hosts}
 use Rattle.rx_forest.specs.HostOps.{host_ops}
 use Rattle.rx_base.specs.Awaits.{Awaits}
 use Rattle.rx_host.specs.Kept.{Kept, forest_kept}
 use Rattle.rx_meaning.specs.Outcome.{Outcome, commit, defer, newly_caught}
-use Rattle.end_laws.specs.Trimmed.{trimmed, trimmed_if}
 
--- what is shown: the committed tree, its hosts with room for more, and the pending passive effects
+-- what is shown of the committed tree: its hosts with room for more, and the pending passive effects
 pub record Shown : Type 0 where
-  pub tree : Option Node
   pub hosts : Kept
   pub passive : Passive
 
--- What is shown is that of a committed tree and of pending passive effects: the tree without the vacant places at the ends of its lists, its hosts, and these effects.
+-- What is shown is that of a committed tree and of pending passive effects: its hosts, and these effects.
 pub record Shows (tree : Option Node) (passive : Passive) (v : Shown) : Type 0 where
-  pub tree_is : v.tree ≡ trimmed_if tree
   pub hosts_are : forest_kept v.hosts ≡ forest_of (hosts tree)
   pub passive_is : v.passive ≡ passive
 
--- what a commit is prepared to do: to show this tree, by these operations on its hosts, with these values that error boundaries catch and these layout effects, and to leave these passive effects pending
+-- what a commit is prepared to do: these operations on the hosts, with these values that error boundaries catch and these layout effects, and to leave these passive effects pending
 pub record Prepared : Type 0 where
-  pub tree : Node
   pub ops : List HostOp
   pub caught : List ℤ
   pub layout : List LogLine
@@ -35,7 +31,6 @@ pub record Prepared : Type 0 where
 
 -- a prepared commit is that of a tree after another one
 pub record Prepares (old : Option Node) (new : Node) (x : Prepared) : Type 0 where
-  pub tree_is : x.tree ≡ trimmed new
   pub ops_are : x.ops ≡ host_ops old new
   pub caught_is : x.caught ≡ newly_caught old new
   pub layout_is : x.layout ≡ layout_log (compare_trees old new)
@@ -50,3 +45,8 @@ pub record CanCommit (v : Shown) (x : Prepared) : Type 0 where
 abbrev pub outcome_as : Node → Option Awaits → Outcome
 outcome_as new None = commit new
 outcome_as new (Some awaits) = defer awaits
+
+-- if hosts are placed, these are all hosts of the new tree, which tell where those go
+abbrev pub TellsWhere : (placed : List ℕ) → (all : List Host) → Node → Type 0
+TellsWhere [] all new = Unit {0}
+TellsWhere (n ∷ ns) all new = all ≡ hosts (Some new)

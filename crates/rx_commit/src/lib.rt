@@ -1,8 +1,10 @@
 //! What is shown of a committed tree, and a commit as one change of it.
 #![tactic(auto)]
 
+mod deferring;
 mod prepared;
 mod shown;
 
+pub use deferring::deferral;
 pub use prepared::Prepared;
 pub use shown::Shown;

@@ -14,16 +14,18 @@ ghost use Rattle.host_laws.specs.Commits.{IsCommit};
 ghost use Rattle.host_laws.specs.Related.{AreDistinct};
 ghost use Rattle.prune_laws.specs.Present.{IfHasNoNull};
 ghost use Rattle.prune_laws.specs.Staying.{AreOfCommit};
-ghost use Rattle.rx_commit.specs.Shown.{Prepares};
+ghost use Rattle.rx_changes.specs.ChangesView.{changes_seen};
+ghost use Rattle.rx_changes.specs.Found.{found_in};
+ghost use Rattle.rx_commit.specs.Shown.{Prepares, TellsWhere};
 ghost use Rattle.rx_commit.specs.Written.{lines_of, sync_lines};
 ghost use Rattle.rx_writing.specs.Written.{GoesOn, with_lines};
 
 use prune_laws::{hosts_that_stay_need_nothing, pruned_trees_compare_alike};
 use rx_base::Int;
-use rx_changes::{Changes, Lines, changes_between};
+use rx_changes::{Changes, Lines};
 use rx_forest::HostOp;
 use rx_host_ops::{
-    have_same_numbers, hosts as listed, ops_among as among_all, ops_between as between,
+    Host, have_same_numbers, hosts as listed, ops_among as among_all, ops_between as between,
     ops_in_place,
 };
 use rx_lane::{Lane, Lanes};
@@ -34,11 +36,10 @@ use rx_writing::{add_caught, add_lines, add_ops, cut_back};
 use std::alloc::{AllocError, Global};
 use std::marker::Model;
 
-/// What a commit does, all of it prepared (react.dev, Render and Commit): the tree that it shows, the operations on its hosts,
-/// what error boundaries catch, the layout effects, and the passive effects that it leaves pending.
+/// What a commit does, all of it prepared (react.dev, Render and Commit): the operations on the hosts, what error boundaries catch,
+/// the layout effects, and the passive effects that it leaves pending.
 #[derive(Drop)]
 pub struct Prepared {
-    pub(crate) tree: node::Node,
     pub(crate) ops: Vec<HostOp>,
     caught: Vec<Int>,
     layout: Lines,
@@ -52,28 +53,22 @@ impl Model for Prepared {
 
     ghost Value = { shown.Prepared };
 
-    ghost use Rattle.std.specs.Coded.{codes};
-    ghost use Rattle.rx_node.specs.NodeCode.{node_code};
-
-    ghost coded = { Prim.hlevel (codes, node_code) };
-
-    ghost view = { λ p. record { tree = p.tree; ops = p.ops.items; caught = p.caught.items; layout = p.layout.destroyed.items ++ p.layout.created.items; passive = passive_seen p.passive } };
+    ghost view = { λ p. record { ops = p.ops.items; caught = p.caught.items; layout = p.layout.destroyed.items ++ p.layout.created.items; passive = passive_seen p.passive } };
 }
 
-// The operations from the hosts of one tree to those of another, if hosts of these numbers are placed among those of a third.
+// The operations from the hosts of one tree to those of another, if hosts of these numbers are placed among all of these.
 fn ops_from(
     alloc: Global,
     old: Option<&node::Node>,
     new: &node::Node,
-    all: &node::Node,
+    all: &[Host],
     placed: &[u64],
 ) -> Result<Vec<HostOp>, AllocError>
-    ensures { IfOk result (λ ops. ops.items ≡ ops_among (hosts (option_copied old.entry)) (hosts (Some new.now)) (hosts (Some all.now)) placed.now) }
+    ensures { IfOk result (λ ops. ops.items ≡ ops_among (hosts (option_copied old.entry)) (hosts (Some new.now)) all.now placed.now) }
 {
     let before = listed(alloc, old)?;
     let after = listed(alloc, Some(new))?;
-    let among = listed(alloc, Some(all))?;
-    among_all(alloc, &before, &after, &among, placed)
+    among_all(alloc, &before, &after, all, placed)
 }
 
 // The operations from the hosts of one tree to those of another, if none is placed. Most often each host stands where it stood.
@@ -96,13 +91,12 @@ fn changes_from(
 // one may have stayed: only where such ones go is told by all hosts of the new tree.
 fn ops_beside(
     alloc: Global,
-    old: Option<&node::Node>,
     beside: &Beside,
     placed: &[u64],
+    all: &[Host],
 ) -> Result<Vec<HostOp>, AllocError>
-    requires beside { IsBeside (option_copied old) beside.now }
-    requires placed { placed.now ≡ placed_hosts (changes (compare_trees beside.now.pruned_old beside.now.pruned_new)) }
-    ensures { IfOk result (λ ops. IfHasNoNull (option_copied old.entry) → AreOfCommit (option_copied old.entry) beside.now.tree → ops.items ≡ host_ops (option_copied old.entry) beside.now.tree) }
+    requires { placed.now ≡ placed_hosts (changes (compare_trees beside.now.pruned_old beside.now.pruned_new)) }
+    ensures { IfOk result (λ ops. (old : Option Node) (new : Node) → IsBeside old new beside.now → IfHasNoNull old → AreOfCommit old new → TellsWhere placed.now all.now new → ops.items ≡ host_ops old new) }
 {
     pruned_trees_compare_alike();
     hosts_that_stay_need_nothing();
@@ -111,43 +105,35 @@ fn ops_beside(
     if placed.is_empty() {
         changes_from(alloc, before, after)
     } else {
-        ops_from(alloc, before, after, &beside.tree, placed)
+        ops_from(alloc, before, after, all, placed)
     }
 }
 
 impl Prepared {
-    // The commit of a finished tree after the one that is shown.
+    // The commit of a finished tree after the one that is shown, by what these change without what stayed the same.
     pub(crate) fn new(
         alloc: Global,
-        old: Option<&node::Node>,
         beside: &Beside,
+        changes: Changes,
+        all: &[Host],
     ) -> Result<Prepared, AllocError>
-        requires { IsBeside (option_copied old) beside.now }
-        ensures { IfOk result (λ x. (tree : Option Node) (next : Node) → option_copied old.entry ≡ trimmed_if tree → beside.now.tree ≡ trimmed next → IfHasNoNull tree → IsCommit tree next → Prepares tree next x) }
+        requires { changes_seen changes ≡ found_in (compare_trees beside.now.pruned_old beside.now.pruned_new) }
+        ensures { IfOk result (λ x. (old : Option Node) (new : Node) → IsBeside (trimmed_if old) (trimmed new) beside.now → IfHasNoNull old → IsCommit old new → TellsWhere changes.placed.items all.now new → Prepares old new x) }
     {
         pruned_trees_compare_alike();
-        let pruned = beside.pruned_old.as_ref();
         let Changes {
             layout,
             passive,
             placed,
             caught,
             hidden: _hidden,
-        } = changes_between(alloc, pruned, &beside.pruned_new)?;
+        } = changes;
         Ok(Prepared {
-            ops: ops_beside(alloc, old, beside, &placed)?,
+            ops: ops_beside(alloc, beside, &placed, all)?,
             caught,
             layout,
             passive,
-            tree: beside.tree.copy()?,
         })
-    }
-
-    /// The tree that it shows.
-    pub fn tree(&self) -> &node::Node
-        ensures { result.now ≡ self.now.tree }
-    {
-        &self.tree
     }
 
     /// Writes what the commit does: its own line with its number, from 1, its lanes and its counts, then the operations, what error

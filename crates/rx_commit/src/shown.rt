@@ -1,6 +1,5 @@
 // What is shown.
 ghost use Rattle.std.specs.Prelude.{◌≡◌, Option, Some, None, IfOk, OnErr, OnOk};
-ghost use Rattle.std.specs.Option.{option_copied};
 ghost use Rattle.rx_elem.specs.Trees.{Node};
 ghost use Rattle.rx_elem.specs.Compare.{compare_trees};
 ghost use Rattle.rx_effect.specs.EffectLog as effects;
@@ -9,33 +8,29 @@ ghost use Rattle.rx_forest.specs.Forests.{forest_of};
 ghost use Rattle.rx_forest.specs.Hosts.{hosts};
 ghost use Rattle.rx_host.specs.Kept.{forest_kept};
 ghost use Rattle.rx_lines.specs.Lines.{tree_lines};
-ghost use Rattle.rx_meaning.specs.Outcome.{outcome};
 ghost use Rattle.rx_report.specs.TreeOrder.{AreInTreeOrder};
 ghost use Rattle.rx_pruned.specs.Besides.{IsBeside};
 ghost use Rattle.end_laws.specs.Trimmed.{trimmed, trimmed_if};
 ghost use Rattle.host_laws.specs.Commits.{IsCommit, TextsAreLeaves};
 ghost use Rattle.prune_laws.specs.Present.{IfHasNoNull};
-ghost use Rattle.rx_commit.specs.Shown.{CanCommit, Prepares, Shows, outcome_as};
+ghost use Rattle.rx_changes.specs.ChangesView.{changes_seen};
+ghost use Rattle.rx_changes.specs.Found.{found_in};
+ghost use Rattle.rx_commit.specs.Shown.{CanCommit, Prepares, Shows, TellsWhere};
 ghost use Rattle.rx_writing.specs.Written.{passive_lines, with_lines};
 
 use crate::prepared::Prepared;
-use prune_laws::pruned_trees_compare_alike;
-use rx_base::Awaits;
-use rx_changes::{Lines, changes_between};
-use rx_compare::{Outcome, outcome_of};
+use rx_changes::{Changes, Lines};
 use rx_host::{HostTree, apply_all};
-use rx_lane::Lanes;
-use rx_node as node;
+use rx_host_ops::Host;
 use rx_pruned::Beside;
 use rx_report::Report;
 use rx_writing::{add_lines, cut_back};
 use std::alloc::{AllocError, Global};
 use std::marker::Model;
 
-/// What is shown: the committed tree, its hosts, and the passive effects that are pending (react.dev, Render and Commit).
-/// Contracts see the tree as plain data, the hosts as a forest with room for more, and the effects as lists.
+/// What is shown of the committed tree: its hosts, and the passive effects that are pending (react.dev, Render and Commit).
+/// Contracts see the hosts as a forest with room for more, and the effects as lists.
 pub struct Shown {
-    tree: Option<node::Node>,
     hosts: HostTree,
     passive: Lines,
 }
@@ -46,19 +41,13 @@ impl Model for Shown {
 
     ghost Value = { shown.Shown };
 
-    ghost use Rattle.std.specs.Coded.{codes};
-    ghost use Rattle.rx_node.specs.NodeCode.{node_code};
-
-    ghost coded = { Prim.hlevel (codes, node_code) };
-
-    ghost view = { λ s. record { tree = s.tree; hosts = s.hosts; passive = passive_seen s.passive } };
+    ghost view = { λ s. record { hosts = s.hosts; passive = passive_seen s.passive } };
 }
 
 // It is taken apart here alone, once for all crates.
 impl Drop for Shown {
     fn drop(self) {
         let Shown {
-            tree: _tree,
             hosts: _hosts,
             passive: _passive,
         } = self;
@@ -66,66 +55,37 @@ impl Drop for Shown {
 }
 
 impl Shown {
-    /// Nothing: no tree, and no effect is pending.
+    /// Nothing: no host, and no effect is pending.
     pub fn new(alloc: Global) -> Shown
         ensures { Shows None no_passive result }
     {
         Shown {
-            tree: None,
             hosts: HostTree::new(alloc),
             passive: Lines::new(alloc),
         }
     }
 
-    /// The committed tree, without the vacant places at the ends of its lists.
-    pub fn tree(&self) -> Option<&node::Node>
-        ensures { option_copied result ≡ self.now.tree }
-    {
-        self.tree.as_ref()
-    }
-
-    /// What becomes of a finished render with these lanes: `None` if it is committed, and else the resources that it waits
-    /// for. Only if all lanes are transitions may it be deferred, and only then are the trees compared.
+    /// Prepares the commit of a finished tree, by what it changes beside the committed one: it takes all the memory that the commit
+    /// needs, and shows nothing of it. If hosts are placed, `all` has those of the finished tree: they tell where these go.
     ///
     /// # Errors
     ///
     /// Only if out of memory.
-    pub fn outcome(
-        &self,
+    pub fn prepare(
+        &mut self,
         alloc: Global,
         beside: &Beside,
-        lanes: Lanes,
-    ) -> Result<Option<Awaits>, AllocError>
-        requires { IsBeside self.now.tree beside.now }
-        ensures { IfOk result (λ awaits. (tree : Option Node) (next : Node) → self.entry.now.tree ≡ trimmed_if tree → beside.now.tree ≡ trimmed next → IfHasNoNull tree → outcome_as next awaits ≡ outcome lanes tree next) }
-    {
-        pruned_trees_compare_alike();
-        if !lanes.only_transitions() {
-            return Ok(None);
-        }
-        let pruned = beside.pruned_old.as_ref();
-        let changes = changes_between(alloc, pruned, &beside.pruned_new)?;
-        match outcome_of(lanes, changes.hidden) {
-            Outcome::Commit => Ok(None),
-            Outcome::Defer(awaits) => Ok(Some(awaits)),
-        }
-    }
-
-    /// Prepares the commit of a finished tree: it takes all the memory that the commit needs, and shows nothing of it.
-    ///
-    /// # Errors
-    ///
-    /// Only if out of memory.
-    pub fn prepare(&mut self, alloc: Global, beside: &Beside) -> Result<Prepared, AllocError>
-        requires { IsBeside self.old.tree beside.now }
-        ensures prepares { IfOk result (λ x. (tree : Option Node) (next : Node) → self.old.tree ≡ trimmed_if tree → beside.now.tree ≡ trimmed next → IfHasNoNull tree → IsCommit tree next → Prepares tree next x) }
-        ensures ready { IfOk result (λ x. (tree : Option Node) (passive : effects.Passive) (next : Node) → Shows tree passive self.old → beside.now.tree ≡ trimmed next → IfHasNoNull tree → IsCommit tree next → TextsAreLeaves next → CanCommit self.new x) }
-        ensures tree { self.new.tree ≡ self.old.tree }
+        changes: Changes,
+        all: &[Host],
+    ) -> Result<Prepared, AllocError>
+        requires { changes_seen changes ≡ found_in (compare_trees beside.now.pruned_old beside.now.pruned_new) }
+        ensures prepares { IfOk result (λ x. (old : Option Node) (new : Node) → IsBeside (trimmed_if old) (trimmed new) beside.now → IfHasNoNull old → IsCommit old new → TellsWhere changes.placed.items all.now new → Prepares old new x) }
+        ensures ready { IfOk result (λ x. (old : Option Node) (passive : effects.Passive) (new : Node) → Shows old passive self.old → IsCommit old new → TextsAreLeaves new → Prepares old new x → CanCommit self.new x) }
         ensures hosts { forest_kept self.new.hosts ≡ forest_kept self.old.hosts }
         ensures passive { self.new.passive ≡ self.old.passive }
         ensures same { (tree : Option Node) (passive : effects.Passive) → Shows tree passive self.old → Shows tree passive self.new }
     {
-        let prepared = Prepared::new(alloc, self.tree(), beside)?;
+        let prepared = Prepared::new(alloc, beside, changes, all)?;
         self.hosts.reserve(prepared.ops.len() as u64)?;
         Ok(prepared)
     }
@@ -136,7 +96,6 @@ impl Shown {
         ensures { (tree : Option Node) (next : Node) → forest_kept self.old.hosts ≡ forest_of (hosts tree) → IsCommit tree next → Prepares tree next prepared → Shows (Some next) (passive_of (compare_trees tree next)) self.new }
     {
         apply_all(&mut self.hosts, prepared.ops);
-        self.tree = Some(prepared.tree);
         self.passive = prepared.passive;
     }
 

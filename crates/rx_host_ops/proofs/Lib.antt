@@ -1,5 +1,5 @@
 mod Lists
-mod Parts
+pub mod Parts
 mod Sorting
 mod Finding
 mod Behind

@@ -12,4 +12,4 @@ mod table;
 
 pub use between::{have_same_numbers, ops_among, ops_between, ops_in_place};
 pub use host::Host;
-pub use reading::hosts;
+pub use reading::{add_host, concealed_below, hosts, parent_below};

@@ -39,8 +39,6 @@ use Rattle.rx_hook_store.specs.Store.{kept_hooks}
 use Rattle.rx_hook_store.proofs.Numbered.{links_committed}
 use Rattle.rx_hook_store.proofs.Staying.{all_stay}
 use Rattle.rx_numbers.specs.Room.{FitIn}
-use Rattle.rx_pruned.specs.Pruned as pruned
-use Rattle.rx_pruned.specs.Pruned.{ArePruned}
 use Rattle.rx_resources.specs.Kept.{Kept, committed}
 use Rattle.rx_settle.specs.Settling.{IsSettlingOf}
 use Rattle.rx_spots.specs.Waits.{AreWithinReach}
@@ -84,11 +82,6 @@ not_deferred lanes old tree other = go (newly_hidden old tree)
     go : (cs : List Change) → commit tree ≡ outcome_by lanes tree cs
     go [] = refl
     go (c ∷ cs) = rw other refl
-
--- trees beside themselves
-pub pruned_whole : (old : Option Node) (new : Node) → ArePruned old new old new
-pruned_whole None new = pruned.first
-pruned_whole (Some o) new = pruned.later pruned.whole
 
 -- ---- the lanes that are pending again
 
@@ -186,6 +179,7 @@ deferred_stands p s g counts waits v new x h idle reached is =
       tree = h.tree;
       keeps = all_stay s t refl refl p (kept_hooks v.hooks) (kept_hooks v.hooks) refl (λ n. refl) h.keeps;
       below = h.below;
+      evaluated = h.evaluated;
       schedule = refl;
       commits = h.commits;
       seen = h.seen;
@@ -249,6 +243,7 @@ committed_with p s g tree passive store v x h idle reached keeps =
       tree = refl;
       keeps = all_stay st (record st { passive = passive }) refl refl p (kept_hooks store) (kept_hooks store) refl (λ n. refl) keeps;
       below = links_committed s g tree h.below;
+      evaluated = h.evaluated;
       schedule = rw (h.schedule, h.now) refl;
       commits = rw h.commits refl;
       seen = refl;

@@ -33,7 +33,7 @@ use rx_lane::{Lane, Lanes};
 use rx_node::Node;
 use rx_numbers::{number, trim};
 use rx_report::Report;
-use rx_settle::settle_hooks;
+use rx_settle::settle_all;
 use rx_spots::awaited;
 use rx_writing::{add_caught, add_lines};
 use std::alloc::AllocError;
@@ -199,12 +199,10 @@ impl Plain {
         ensures rest { self.new ≡ record self.old { hooks = self.new.hooks } }
     {
         let old = self.tree.as_ref();
-        settle_hooks(
+        settle_all(
             self.alloc,
             &mut self.hooks,
             checked,
-            old,
-            next,
             old,
             next,
             first,

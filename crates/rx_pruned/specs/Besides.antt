@@ -4,6 +4,6 @@ use Rattle.rx_elem.specs.Trees.{Node}
 use Rattle.rx_pruned.specs.declared.beside.Beside.{Beside}
 use Rattle.rx_pruned.specs.Pruned.{ArePruned}
 
--- it is beside this committed tree
-abbrev pub IsBeside : Option Node → Beside → Type 0
-IsBeside old b = ArePruned old b.tree b.pruned_old b.pruned_new
+-- it is what is left of this committed tree and this finished one
+abbrev pub IsBeside : Option Node → Node → Beside → Type 0
+IsBeside old new b = ArePruned old new b.pruned_old b.pruned_new

@@ -7,4 +7,4 @@ mod reading;
 
 pub use laws::current_trees_have_numbers;
 pub use numbering::{Numbers, made_child, number_made};
-pub use reading::{read_current, read_fiber, read_in_progress};
+pub use reading::{NodeLists, lists_of, read_current, read_fiber, read_in_progress};

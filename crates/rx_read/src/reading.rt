@@ -14,11 +14,11 @@ use rx_links::{FiberId, FiberTree};
 use rx_node::{Mark, Node};
 use std::alloc::{AllocError, Global};
 
-// Where the lists of a node begin.
+/// Where the lists of a node begin.
 #[derive(Clone, Copy)]
-struct Lists {
-    children: Option<FiberId>,
-    fallback: Option<FiberId>,
+pub struct NodeLists {
+    pub children: Option<FiberId>,
+    pub fallback: Option<FiberId>,
 }
 
 // Whether a list begins with the fiber of a fallback.
@@ -43,9 +43,9 @@ fn child_of_link(tree: &FiberTree<Fiber>, link: Option<FiberId>) -> Option<Fiber
     tree.first_child(link?)
 }
 
-// Where the lists of a fiber's node begin. A hidden boundary that keeps something has the fiber of its fallback right behind
-// its own; one that keeps nothing has its fallback as its children, and so has an error boundary that has caught a value.
-fn lists_of(tree: &FiberTree<Fiber>, id: FiberId) -> Lists
+/// Where the lists of a fiber's node begin. A hidden boundary that keeps something has the fiber of its fallback right behind
+/// its own; one that keeps nothing has its fallback as its children, and so has an error boundary that has caught a value.
+pub fn lists_of(tree: &FiberTree<Fiber>, id: FiberId) -> NodeLists
     requires { IsIn tree.now id }
     ensures children_in { IfSome result.children (IsIn tree.now) }
     ensures fallback_in { IfSome result.fallback (IsIn tree.now) }
@@ -55,19 +55,19 @@ fn lists_of(tree: &FiberTree<Fiber>, id: FiberId) -> Lists
     tree.facts();
     let first = tree.first_child(id);
     if !falls(tree.value(id).stage()) {
-        return Lists {
+        return NodeLists {
             children: first,
             fallback: None,
         };
     }
     if !begins_fallback(tree, tree.next_sibling(id)) {
-        return Lists {
+        return NodeLists {
             children: None,
             fallback: first,
         };
     }
     let fallback = child_of_link(tree, tree.next_sibling(id));
-    Lists {
+    NodeLists {
         children: first,
         fallback,
     }

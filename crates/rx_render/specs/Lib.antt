@@ -5,6 +5,7 @@ pub mod Rendering
 pub mod Costing
 pub mod Gathers
 pub mod Renders
+pub mod Settling
 pub mod Turning
 pub mod TurningLaws
 pub mod Advancing

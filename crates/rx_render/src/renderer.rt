@@ -1,11 +1,11 @@
 // A render in progress.
 ghost use Rattle.std.specs.Prelude.{◌≡◌, ◌+◌, ◌*◌, ◌<◌, ◌≤◌, ◌^◌, ℕ, ℤ, true, false, List, [], Option, None, Some, length, slice_get, IfOk, OnOk, OnErr, IsOk, IsSomeAnd, if◌then◌else◌};
-ghost use Rattle.std.specs.Option.{option_copied};
 ghost use Rattle.rx_ast.specs.Syntax.{Program};
 ghost use Rattle.rx_check.specs.Checks.{unknowns};
 ghost use Rattle.rx_elem.specs.Numbers.{numbered};
 ghost use Rattle.rx_elem.specs.Spots.{Mounted, mounted, node_count};
 ghost use Rattle.rx_elem.specs.Trees as trees;
+ghost use Rattle.rx_forest.specs.Hosts.{hosts};
 ghost use Rattle.rx_loop.specs.Ends.{MatchUnit};
 ghost use Rattle.rx_rules.specs.Bounds.{node_bound};
 ghost use Rattle.rx_lists.specs.Shapes.{none, size};
@@ -36,10 +36,10 @@ ghost use Rattle.rx_hook_store.specs.Store.{hook_room, kept_hooks};
 ghost use Rattle.rx_hook_store.specs.Changing.{ChangesHooks, dispatched_hook, lanes_linked};
 ghost use Rattle.rx_hook_store.specs.Rendered.{IsRendered, KeepsInstance};
 ghost use Rattle.rx_settle.specs.Passes.{has_instance};
-ghost use Rattle.rx_settle.specs.Settling.{CanSettle, IsSettlingOf};
 ghost use Rattle.rx_render.specs.declared.at.At.TheVariants.{Over};
 ghost use Rattle.rx_render.specs.LastUnit.{is_over};
 ghost use Rattle.rx_render.specs.Rendering.{HasNoRender, IfLeft, left_of};
+ghost use Rattle.rx_render.specs.Settling.{IsAtHand};
 ghost use Rattle.rx_render.specs.Renders.{CanStart, GivesAll, IsStartOf, IsUnderWay, LeadsToWork, Renders, with_hooks};
 ghost use Rattle.rx_render.specs.Turning.{Proceeds, GivesUp, UnitBreaksOff};
 ghost use Rattle.rx_render.specs.TurningLaws.{proceeds_same, proceeds_join, gives_up_after};
@@ -47,6 +47,7 @@ ghost use Rattle.rx_render.specs.TurningLaws.{proceeds_same, proceeds_join, give
 use crate::advance::advance;
 use crate::at::{At, is_over, unit_before};
 use crate::roots::{default_contexts, root_element};
+use crate::settle::settle_finished;
 use draw_laws::cursors_are_drawn;
 use render_laws::nodes_are_bounded;
 use room_laws::fibers_have_room;
@@ -57,15 +58,16 @@ use rx_check::Checked;
 use rx_ctx::ContextStack;
 use rx_fiber::{Fiber, Origin, Stage};
 use rx_hook_store::HookStore;
+use rx_host_list::hosts_in_progress;
+use rx_host_ops::Host;
 use rx_lane::Lanes;
 use rx_links::FiberTree;
 use rx_loop::{Unit, Units};
 use rx_node::Node;
 use rx_pruned::Beside;
 use rx_queue::Update;
-use rx_read::{Numbers, number_made};
+use rx_read::{Numbers, number_made, read_in_progress};
 use rx_resources::Seen;
-use rx_settle::settle_hooks;
 use rx_step::LaneWord;
 use rx_ways::{Ways, find_ways};
 use std::alloc::{AllocError, Global};
@@ -380,20 +382,42 @@ impl Renderer {
         Ok(())
     }
 
-    /// The finished tree as a plain tree, without the vacant places at the ends of its lists, of which fibers do not tell; and
-    /// beside it the committed tree and itself, both without some lists that it took over. `old` is the current tree as a plain
-    /// one. Takes time for what the render made, and none for what is below a list that it took over.
+    /// The current tree and the finished one, both without what stayed the same (react.dev, Render and Commit), without the vacant
+    /// places at the ends of their lists, of which fibers do not tell. Takes time for what the render made and for what is gone, and
+    /// none for what is below a list that was taken over.
     ///
     /// # Errors
     ///
     /// Only if out of memory.
-    pub fn finished(&self, old: Option<&Node>) -> Result<Beside, AllocError>
+    pub fn finished(&self) -> Result<Beside, AllocError>
         requires finished { (x : trees.Node) × IsTreeOf (Some x) (grafted self.now.trees.draft) }
-        requires current { (y : Option trees.Node) × (IsTreeOf y self.now.trees.current × (option_copied old ≡ trimmed_if y)) }
-        ensures tree { IfOk result (λ b. (x : trees.Node) → IsTreeOf (Some x) (grafted self.now.trees.draft) → b.tree ≡ trimmed x) }
-        ensures beside { IfOk result (λ b. IsBeside (option_copied old.entry) b) }
+        requires current { (y : Option trees.Node) × IsTreeOf y self.now.trees.current }
+        ensures { IfOk result (λ b. (y : Option trees.Node) (x : trees.Node) → IsTreeOf y self.now.trees.current → IsTreeOf (Some x) (grafted self.now.trees.draft) → IsBeside (trimmed_if y) (trimmed x) b) }
     {
-        read_beside(self.alloc, &self.fibers, old)
+        read_beside(self.alloc, &self.fibers)
+    }
+
+    /// The finished tree as a plain tree, without the vacant places at the ends of its lists. Takes time for the whole tree.
+    ///
+    /// # Errors
+    ///
+    /// Only if out of memory.
+    pub fn finished_tree(&self) -> Result<Node, AllocError>
+        requires { (x : trees.Node) × IsTreeOf (Some x) (grafted self.now.trees.draft) }
+        ensures { IfOk result (λ n. (x : trees.Node) → IsTreeOf (Some x) (grafted self.now.trees.draft) → n ≡ trimmed x) }
+    {
+        read_in_progress(self.alloc, &self.fibers)
+    }
+
+    /// The hosts of the finished tree, in tree order. Takes time for the whole tree.
+    ///
+    /// # Errors
+    ///
+    /// Only if out of memory.
+    pub fn finished_hosts(&self) -> Result<Vec<Host>, AllocError>
+        ensures { IfOk result (λ found. (x : trees.Node) → IsTreeOf (Some x) (grafted self.now.trees.draft) → found.items ≡ hosts (Some x)) }
+    {
+        hosts_in_progress(self.alloc, &self.fibers)
     }
 
     /// Whether a boundary of the finished tree hides its children (react.dev, Suspense), told by the fiber of its root.
@@ -424,41 +448,34 @@ impl Renderer {
         number_made(&mut self.fibers, next)
     }
 
-    /// Settles the hooks of each instance of the finished tree at its commit (react.dev, State as a Snapshot): `old` is the
-    /// current tree as a plain one, `beside` has the finished one with its numbers, and new instances have numbers from the first on.
+    /// Settles the hooks of each instance of the finished tree at its commit (react.dev, State as a Snapshot): the finished tree has its
+    /// numbers, `beside` is what is left of it and of the current one, and new instances have numbers from the first on. Takes time
+    /// for the whole of both trees only if an instance with work is left out.
     ///
     /// # Errors
     ///
     /// Only if out of memory. The hooks then stand for whatever they stood for, and the render is still finished.
-    pub fn settle(
-        &mut self,
-        old: Option<&Node>,
-        beside: &Beside,
-        first: u64,
-    ) -> Result<(), AllocError>
+    pub fn settle(&mut self, beside: &Beside, first: u64) -> Result<(), AllocError>
         requires over { self.old.at ≡ Over }
-        requires at_hand { CanSettle self.old.program (kept_hooks self.old.hooks) (option_copied old) beside.now.tree first self.old.lanes self.old.cut }
-        requires beside { IsBeside (option_copied old) beside.now }
+        requires at_hand { (s : State) × (g : Progress) × (x : trees.Node) × IsAtHand s g x first beside.now self.old }
         ensures same { self.new ≡ with_hooks self.old self.new.hooks }
 
         // What is kept stands for the machine's state after the commit.
-        ensures settled { OnOk result ((s : State) (g : Progress) (x : trees.Node)
-            → IsSettlingOf self.old.program (kept_hooks self.old.hooks) (option_copied old.entry) beside.now.tree first self.old.lanes self.old.cut s g x
+        ensures settled { OnOk result ((s : State) (g : Progress) (x : trees.Node) → IsAtHand s g x first beside.now self.old
             → KeepsAllHooks self.old.program (committed_state s g (numbered s.numbers x)) (kept_hooks self.new.hooks)) }
-        ensures gone { OnOk result ((k : ℕ) (m : Mounted) → slice_get (mounted (option_copied old.entry)) k ≡ Some m
-            → has_instance (mounted (Some beside.now.tree)) m.number ≡ false → kept_hooks self.new.hooks m.number ≡ None) }
+        ensures gone { OnOk result ((s : State) (g : Progress) (x : trees.Node) (k : ℕ) (m : Mounted) → IsAtHand s g x first beside.now self.old
+            → slice_get (mounted (trimmed_if s.tree)) k ≡ Some m → has_instance (mounted (Some (trimmed (numbered s.numbers x).1))) m.number ≡ false
+            → kept_hooks self.new.hooks m.number ≡ None) }
         ensures err { OnErr result ((s : State) → DoneBefore self.old.cut s.journal.updates → KeepsAllHooks self.old.program s (kept_hooks self.old.hooks)
             → KeepsAllHooks self.old.program s (kept_hooks self.new.hooks)) }
         ensures stays { OnErr result ((p : Program) (s : State) (g : Progress) → Renders p s g self.old → Renders p s g self.new) }
     {
-        settle_hooks(
+        settle_finished(
             self.alloc,
             &mut self.hooks,
             &self.checked,
-            old,
-            &beside.tree,
-            beside.pruned_old.as_ref(),
-            &beside.pruned_new,
+            &self.fibers,
+            beside,
             first,
             self.lanes,
             self.cut,

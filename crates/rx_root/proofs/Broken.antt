@@ -175,31 +175,13 @@ gave_up_but p s g v w h up =
     (but_for p s _ v w.rendering w.shown h up.program up.current up.seen after (up.shows s.tree s.passive h.shows))
 
 -- a root whose hooks are settled, and that is about to show another tree
-pub prepared_rest : (v i w : Rooted) (shown : Shown) → i ≡ v → w ≡ record i { shown = shown; rendering = with_hooks i.rendering w.rendering.hooks }
+pub prepared_rest : (v x w : Rooted) → x ≡ record v { shown = x.shown } → w ≡ record x { rendering = with_hooks x.rendering w.rendering.hooks }
     → w ≡ record v { rendering = with_hooks v.rendering w.rendering.hooks; shown = w.shown }
-prepared_rest v i w shown same is =
-    let e : w.shown ≡ shown = ap (λ (z : Rooted). z.shown) is in
-    is ∙ ap (λ (y : Shown). record i { shown = y; rendering = with_hooks i.rendering w.rendering.hooks }) (sym e)
-    ∙ ap (λ (z : Rooted). record z { rendering = with_hooks z.rendering w.rendering.hooks; shown = w.shown }) same
+prepared_rest v x w is settled =
+    settled ∙ ap (λ (z : Rooted). record z { rendering = with_hooks z.rendering w.rendering.hooks }) is
+    ∙ ap (λ (y : Shown). record v { rendering = with_hooks v.rendering w.rendering.hooks; shown = y }) (sym (ap (λ (z : Rooted). z.shown) settled))
 
 -- Settling hooks
-
--- what is at hand for a commit, by parts that are equal to these
-pub settles_at : (v x : Rooted) (old : Option Node) (n m : Node) (first : ℕ) → x ≡ v → old ≡ x.shown.tree → n ≡ m
-    → CanSettle v.rendering.program (kept_hooks v.rendering.hooks) v.shown.tree m first v.rendering.lanes v.rendering.cut
-    → CanSettle x.rendering.program (kept_hooks x.rendering.hooks) old n first x.rendering.lanes x.rendering.cut
-settles_at v x old n m first same is_old is_new h =
-    subst (λ (o : Option Node). CanSettle x.rendering.program (kept_hooks x.rendering.hooks) o n first x.rendering.lanes x.rendering.cut) (sym is_old)
-    (subst (λ (k : Node). CanSettle x.rendering.program (kept_hooks x.rendering.hooks) x.shown.tree k first x.rendering.lanes x.rendering.cut) (sym is_new)
-    (subst (λ (z : Rooted). CanSettle z.rendering.program (kept_hooks z.rendering.hooks) z.shown.tree m first z.rendering.lanes z.rendering.cut) (sym same) h))
-
-pub settling_at : (v x : Rooted) (old : Option Node) (n m : Node) (first : ℕ) (s : State) (g : Progress) (y : Node) → x ≡ v → old ≡ x.shown.tree → n ≡ m
-    → IsSettlingOf v.rendering.program (kept_hooks v.rendering.hooks) v.shown.tree m first v.rendering.lanes v.rendering.cut s g y
-    → IsSettlingOf x.rendering.program (kept_hooks x.rendering.hooks) old n first x.rendering.lanes x.rendering.cut s g y
-settling_at v x old n m first s g y same is_old is_new h =
-    subst (λ (o : Option Node). IsSettlingOf x.rendering.program (kept_hooks x.rendering.hooks) o n first x.rendering.lanes x.rendering.cut s g y) (sym is_old)
-    (subst (λ (k : Node). IsSettlingOf x.rendering.program (kept_hooks x.rendering.hooks) x.shown.tree k first x.rendering.lanes x.rendering.cut s g y) (sym is_new)
-    (subst (λ (z : Rooted). IsSettlingOf z.rendering.program (kept_hooks z.rendering.hooks) z.shown.tree m first z.rendering.lanes z.rendering.cut s g y) (sym same) h))
 
 -- hooks that were not settled stand for what they stood for
 pub settled_keeps : (v : Rooted) (x w : Rendering) → x ≡ v.rendering → w ≡ with_hooks x w.hooks
@@ -256,7 +238,7 @@ passive_broken p s v new w shown log written h none is program current seen hook
         numbered = (h.numbered.0, subst (IsTreeOf h.numbered.0) (sym current) h.numbered.1, h.numbered.2);
         keeps = keeps;
         below = h.below;
-        shows = subst (λ (x : Shown). Shows s.tree no_passive x) (sym is_shown) (record { tree_is = h.shows.tree_is; hosts_are = h.shows.hosts_are; passive_is = refl });
+        shows = subst (λ (x : Shown). Shows s.tree no_passive x) (sym is_shown) (record { hosts_are = h.shows.hosts_are; passive_is = refl });
         schedule = h.schedule;
         commits = h.commits;
         updates = h.updates;

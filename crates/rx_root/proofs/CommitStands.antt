@@ -18,7 +18,9 @@ use Rattle.rx_model.specs.HooksOf.{KeepsAllHooks}
 use Rattle.rx_model.specs.Committing.{sight_of, passive_run, commit_lines, committed_state, committed_as}
 use Rattle.rx_model.specs.Laws.{IsBounded, IsReached}
 use Rattle.commit_laws.proofs.HiddenLaw.{numbering_numbers}
-use Rattle.end_laws.specs.Trimmed.{trimmed}
+use Rattle.end_laws.specs.Trimmed.{trimmed, trimmed_if}
+use Rattle.rx_pruned.specs.Besides.{IsBeside}
+use Rattle.rx_pruned.specs.declared.beside.Beside.{Beside}
 use Rattle.rx_lists.specs.Shapes as shapes
 use Rattle.rx_links.specs.Drafts.{grafted, taken}
 use Rattle.rx_fiber.specs.Reading.{IsTreeOf}
@@ -33,6 +35,7 @@ use Rattle.rx_settle.specs.Settling.{IsSettlingOf}
 use Rattle.rx_render.specs.declared.at.At.TheVariants.{Over}
 use Rattle.rx_render.specs.Rendering.{Rendering, HasNoRender}
 use Rattle.rx_render.specs.Renders.{with_hooks}
+use Rattle.rx_render.specs.Settling.{IsAtHand}
 use Rattle.rx_root.specs.Rooted.{Rooted}
 use Rattle.rx_root.specs.Stands.{StandsBy, Stands}
 use Rattle.rx_meaning.specs.Settled.{DoneBefore, known_by}
@@ -138,35 +141,43 @@ module _ (p : Program) (s : State) (g : Progress) (tree : Node) (v x : Rooted) (
   pub numbered_over : x.rendering.at ≡ Over
   numbered_over = ap (λ (y : Rooted). y.rendering.at) n.rest ∙ h.progress.over
 
-  -- the hooks can be settled
-  pub settling_of : IsBounded p → (old : Option Node) (new : Node) (first : ℕ) → old ≡ x.shown.tree → new ≡ trimmed (numbered s.numbers tree).1 → first ≡ v.numbers.instance
-      → IsSettlingOf x.rendering.program (kept_hooks x.rendering.hooks) old new first x.rendering.lanes x.rendering.cut s g tree
-  settling_of bounded old new first is_old is_new is_first =
-      subst (λ (q : Program). IsSettlingOf q (kept_hooks x.rendering.hooks) old new first x.rendering.lanes x.rendering.cut s g tree) (sym numbered_knows.program) (record {
-        bounded = bounded;
-        reached = h.reached;
-        gives = h.progress.gives;
-        done = h.progress.renders.done;
-        links = h.below;
-        keeps = subst (λ (y : Rooted). KeepsAllHooks p s (kept_hooks y.rendering.hooks)) (sym n.rest) h.keeps;
-        old_is = is_old ∙ ap (λ (y : Rooted). y.shown.tree) n.rest ∙ h.shows.tree_is;
-        new_is = is_new;
-        first_is = is_first ∙ ap (λ (m : Numbers). m.instance) h.numbers;
-        lanes_are = numbered_knows.lanes;
-        cut_is = ap (λ (y : Rooted). y.rendering.cut) n.rest ∙ h.progress.renders.cut;
-      })
+  module _ (bounded : IsBounded p) (b : Beside) (beside : IsBeside (trimmed_if s.tree) (trimmed (numbered s.numbers tree).1) b) where
+    -- the hooks can be settled
+    pub at_hand_of : (first : ℕ) → first ≡ v.numbers.instance → IsAtHand s g tree first b x.rendering
+    at_hand_of first is_first = record {
+      to_settle = record {
+        current = subst (λ (y : Rooted). IsTreeOf s.tree y.rendering.trees.current) (sym n.rest) h.current;
+        finished = n.there;
+        settling = subst (λ (q : Program). IsSettlingOf q (kept_hooks x.rendering.hooks) (trimmed_if s.tree) (trimmed (numbered s.numbers tree).1) first x.rendering.lanes x.rendering.cut s g tree)
+            (sym numbered_knows.program) (record {
+              bounded = bounded;
+              reached = h.reached;
+              gives = h.progress.gives;
+              done = h.progress.renders.done;
+              links = h.below;
+              keeps = subst (λ (y : Rooted). KeepsAllHooks p s (kept_hooks y.rendering.hooks)) (sym n.rest) h.keeps;
+              old_is = refl;
+              new_is = refl;
+              first_is = is_first ∙ ap (λ (m : Numbers). m.instance) h.numbers;
+              lanes_are = numbered_knows.lanes;
+              cut_is = ap (λ (y : Rooted). y.rendering.cut) n.rest ∙ h.progress.renders.cut;
+            });
+      };
+      beside = beside;
+    }
 
-  -- and the tree can be shown
-  pub follows_of : IsBounded p → IsAccepted p → (new : Node) → new ≡ trimmed (numbered s.numbers tree).1 → CanFollow new s.tree s.passive (numbered s.numbers tree).1 x.shown
-  follows_of bounded accepted new is_new =
-      let commits = is_commit p bounded accepted s g tree h.reached h.progress.gives in
-      record {
-        shows = subst (λ (y : Rooted). Shows s.tree s.passive y.shown) (sym n.rest) h.shows;
-        tree_is = is_new;
-        present = if_settled_present p (known_by (sight_of p s g)) s.tree h.progress.renders.settled;
-        commits = commits.0;
-        leaves = commits.1;
-      }
+    -- and the tree can be shown
+    pub follows_of : IsAccepted p → CanFollow s.tree s.passive (numbered s.numbers tree).1 b x
+    follows_of accepted =
+        let commits = is_commit p bounded accepted s g tree h.reached h.progress.gives in
+        record {
+          shows = subst (λ (y : Rooted). Shows s.tree s.passive y.shown) (sym n.rest) h.shows;
+          there = n.there;
+          beside = beside;
+          present = if_settled_present p (known_by (sight_of p s g)) s.tree h.progress.renders.settled;
+          commits = commits.0;
+          leaves = commits.1;
+        }
 
 -- what the parts of a root did at a commit, once its new nodes had their numbers: its hooks are settled, the tree is shown, it is the current one, and its lanes are finished
 pub record HasCommitted (s : State) (g : Progress) (tree : Node) (x : Rooted) (w : Rendering) (shown : Shown) (y : Rooted) (last : Rendering) (schedule : Schedule) (kept : List Kept) : Type 0 where

@@ -87,7 +87,7 @@ passive_done p s v new log written h is are =
     record {
       stands = subst (λ (r : Rooted). Stands p t r) (sym is)
           (stands_at p s s.now no_event no_passive v v.now (record v.shown { passive = no_passive }) h.now
-          (record { tree_is = h.shows.tree_is; hosts_are = h.shows.hosts_are; passive_is = refl })
+          (record { hosts_are = h.shows.hosts_are; passive_is = refl })
           (step-reached p s step.Passive (passive_run (between_events s)) h.reached refl) h);
       written = are ∙ ap (λ (x : Passive). with_lines log (passive_lines x)) h.shows.passive_is;
     }

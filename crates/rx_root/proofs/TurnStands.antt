@@ -147,7 +147,7 @@ started_stands p s v lanes w h reached set program current hooks renders units b
       numbered = (h.numbered.0, subst (IsTreeOf h.numbered.0) (sym current) h.numbered.1, h.numbered.2);
       keeps = renders.keeps;
       below = h.below;
-      shows = record { tree_is = h.shows.tree_is; hosts_are = h.shows.hosts_are; passive_is = refl };
+      shows = record { hosts_are = h.shows.hosts_are; passive_is = refl };
       schedule = h.schedule;
       commits = h.commits;
       updates = h.updates;

@@ -25,7 +25,9 @@ use Rattle.rx_model.specs.Laws.{IsReached}
 use Rattle.cost_laws.specs.Places.{AreEvaluated, evaluated_places}
 use Rattle.rx_links.specs.Drafts.{grafted}
 use Rattle.rx_fiber.specs.Reading.{IsTreeOf}
-use Rattle.end_laws.specs.Trimmed.{trimmed}
+use Rattle.rx_pruned.specs.Besides.{IsBeside}
+use Rattle.rx_pruned.specs.declared.beside.Beside.{Beside}
+use Rattle.end_laws.specs.Trimmed.{trimmed, trimmed_if}
 use Rattle.host_laws.specs.Commits.{IsCommit, TextsAreLeaves}
 use Rattle.prune_laws.specs.Present.{IfHasNoNull}
 use Rattle.rx_commit.specs.Shown.{CanCommit, Prepared, Prepares, Shown, Shows}
@@ -151,20 +153,21 @@ pub record LeavesRoom (turns : ℕ) (old new : Rooted) : Type 0 where
   pub updates : new.updates ≡ old.updates
   pub resolutions : new.resolutions ≡ old.resolutions
 
--- What is shown is that of an old tree and its passive effects; the tree that is to be shown now is the new one, without the vacant places at the ends of its lists, and related to the old one as a commit relates them; and no node of the old one is one of null.
-pub record CanFollow (tree : Node) (old : Option Node) (passive : Passive) (new : Node) (v : Shown) : Type 0 where
-  pub shows : Shows old passive v
-  pub tree_is : tree ≡ trimmed new
+-- What is shown is that of an old tree and its passive effects; the finished tree is the new one, related to the old one as a commit relates them; this is what is left of both, without the vacant places at the ends of their lists; and no node of the old one is one of null.
+pub record CanFollow (old : Option Node) (passive : Passive) (new : Node) (b : Beside) (v : Rooted) : Type 0 where
+  pub shows : Shows old passive v.shown
+  pub there : IsTreeOf (Some new) (grafted v.rendering.trees.draft)
+  pub beside : IsBeside (trimmed_if old) (trimmed new) b
   pub present : IfHasNoNull old
   pub commits : IsCommit old new
   pub leaves : TextsAreLeaves new
 
 -- some new tree can follow
-pub record CanShow (tree : Node) (v : Shown) : Type 0 where
+pub record CanShow (b : Beside) (v : Rooted) : Type 0 where
   pub old : Option Node
   pub passive : Passive
   pub new : Node
-  pub follows : CanFollow tree old passive new v
+  pub follows : CanFollow old passive new b v
 
 -- so many renders at most are left to finish until nothing is to be rendered
 abbrev pub CanFlush : (limit : ℕ) → Program → State → Type 0

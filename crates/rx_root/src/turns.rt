@@ -19,31 +19,34 @@ ghost use Rattle.rx_model.specs.HooksOf.{KeepsAllHooks};
 ghost use Rattle.rx_model.specs.Stretch.{silent};
 ghost use Rattle.rx_sched.specs.Events.{no_event};
 ghost use Rattle.rx_sched.specs.declared.choice.Choice.TheVariants as choices;
-ghost use Rattle.rx_settle.specs.Settling.{CanSettle, IsSettlingOf};
 ghost use Rattle.rx_hook_store.specs.Store.{kept_hooks};
 ghost use Rattle.rx_model.specs.Breaking.{FlushBreaksOff, HasBegun, TurnBreaksOff};
 ghost use Rattle.rx_model.specs.Turns.{GoesOn, Turn, choice_of, slice_of, unit_bound};
 ghost use Rattle.rx_model.specs.Machine.{FlushWithin};
 ghost use Rattle.rx_model.specs.Kept.{IsSet};
 ghost use Rattle.rx_model.specs.Laws.{IsBounded, IsReached};
+ghost use Rattle.rx_links.specs.Drafts.{grafted};
+ghost use Rattle.rx_fiber.specs.Reading.{IsTreeOf};
 ghost use Rattle.rx_pruned.specs.Besides.{IsBeside};
-ghost use Rattle.end_laws.specs.Trimmed.{trimmed};
-ghost use Rattle.rx_commit.specs.Shown.{Prepares, Shows, outcome_as};
+ghost use Rattle.end_laws.specs.Trimmed.{trimmed, trimmed_if};
+ghost use Rattle.rx_commit.specs.Shown.{Prepares, Shows, TellsWhere, outcome_as};
 ghost use Rattle.rx_commit.specs.Written.{lines_of};
 ghost use Rattle.rx_writing.specs.Written.{passive_lines, with_lines};
 ghost use Rattle.rx_render.specs.declared.at.At.TheVariants.{Over};
 ghost use Rattle.rx_render.specs.Renders.{with_hooks};
+ghost use Rattle.rx_render.specs.Settling.{IsAtHand};
 ghost use Rattle.rx_render.specs.Turning.{GivesUp, KeepsHooks, Proceeds};
 ghost use Rattle.rx_root.specs.Stands.{Stands, StandsWith};
 ghost use Rattle.rx_root.specs.Paying.{Pays};
-ghost use Rattle.rx_root.specs.Turning.{CanFollow, CanShow, FlushesFrom, GaveUp, HasBroken, HasDone, HasFinished, HasNumbered, HasRoomForTurns, HasSomeProgress, HasYielded, IsAtSomeEnd, IsPrepared, IsPreparedFor, KnowsSince, KnowsSinceSome, LeadsOn, LeavesRoom, StandsAtEnd, StandsBetween, Takes, counts_of, passive_left};
+ghost use Rattle.rx_root.specs.Turning.{CanFollow, CanShow, FlushesFrom, GaveUp, HasBroken, HasDone, HasFinished, HasNumbered, HasRoomForTurns, HasSomeProgress, HasYielded, IsAtSomeEnd, IsPrepared, IsPreparedFor, KeepsShown, KnowsSince, KnowsSinceSome, LeadsOn, LeavesRoom, StandsAtEnd, StandsBetween, Takes, counts_of, passive_left};
 
 use crate::root::Root;
 use rx_base::{Awaits, Cut, Steps};
-use rx_commit::{Prepared, Shown};
+use rx_changes::changes_between;
+use rx_commit::{Prepared, Shown, deferral};
+use rx_host_ops::Host;
 use rx_lane::{Lane, Lanes};
 use rx_loop::{Driven, drive};
-use rx_node::Node;
 use rx_pruned::Beside;
 use rx_report::Report;
 use rx_sched::Choice;
@@ -159,8 +162,7 @@ impl Root {
         if !self.renderer.hides() {
             return Ok(None);
         }
-        let beside = self.renderer.finished(self.shown.tree())?;
-        self.shown.outcome(self.alloc, &beside, lanes)
+        deferral(self.alloc, &self.renderer.finished()?, lanes)
     }
 
     // Suspends the lanes of a deferred render, unless something that it waits for has its value by now.
@@ -202,49 +204,80 @@ impl Root {
         self.resources.is_any_new(self.renderer.resources())
     }
 
-    // Whether a visible boundary of this tree waits for a resource that got its value since the render in progress began. The
-    // tree is looked through only if there is such a resource.
-    fn has_retry(&self, tree: &Node) -> bool
-        requires { KnowsSinceSome self.now }
-        ensures { (p : syntax.Program) (s : State) (g : Progress) → KnowsSince p s g self.entry.now
-            → result ≡ awaits_resolved g.lanes g.cut s.journal tree.now }
+    // Whether a visible boundary of the finished tree waits for a resource that got its value since the render in progress began. The
+    // tree is read only if there is such a resource, and a boundary that hides its children.
+    fn has_retry(&self) -> Result<bool, AllocError>
+        requires over { self.now.rendering.at ≡ Over }
+        requires finished { (x : trees.Node) × IsTreeOf (Some x) (grafted self.now.rendering.trees.draft) }
+        requires since { KnowsSinceSome self.now }
+        ensures { IfOk result (λ retry. (p : syntax.Program) (s : State) (g : Progress) (tree : trees.Node) → KnowsSince p s g self.entry.now
+            → IsTreeOf (Some tree) (grafted self.entry.now.rendering.trees.draft) → retry ≡ awaits_resolved g.lanes g.cut s.journal tree) }
     {
         self.facts();
         if !self.is_any_resolved_since() {
-            return false;
+            return Ok(false);
         }
-        self.is_resolved_since(&awaited(Some(tree)))
+        if !self.renderer.hides() {
+            return Ok(false);
+        }
+        let tree = self.renderer.finished_tree()?;
+        Ok(self.is_resolved_since(&awaited(Some(&tree))))
     }
 
-    // The lanes that are pending again after the commit of this tree: those of later updates, and Retry if there is
+    // The lanes that are pending again after the commit of the finished tree: those of later updates, and Retry if there is
     // something to retry.
-    fn still(&self, tree: &Node) -> Lanes
-        requires { KnowsSinceSome self.now }
-        ensures { (p : syntax.Program) (s : State) (g : Progress) (next : trees.Node) → KnowsSince p s g self.entry.now → tree.now ≡ trimmed next
-            → result ≡ still_pending g.lanes g.cut s.journal next }
+    fn still(&self) -> Result<Lanes, AllocError>
+        requires over { self.now.rendering.at ≡ Over }
+        requires finished { (x : trees.Node) × IsTreeOf (Some x) (grafted self.now.rendering.trees.draft) }
+        requires since { KnowsSinceSome self.now }
+        ensures { IfOk result (λ lanes. (p : syntax.Program) (s : State) (g : Progress) (tree : trees.Node) → KnowsSince p s g self.entry.now
+            → IsTreeOf (Some tree) (grafted self.entry.now.rendering.trees.draft) → lanes ≡ still_pending g.lanes g.cut s.journal tree) }
     {
         self.facts();
         let later = self.renderer.lanes().intersection(self.later);
-        let retry = if self.has_retry(tree) {
+        let retry = if self.has_retry()? {
             Lanes::one(Lane::Retry)
         } else {
             Lanes::none()
         };
-        later.union(retry)
+        Ok(later.union(retry))
     }
 
-    // The finished tree beside the one that is shown, with numbers for what is new in it.
+    // Gives what is new in the finished tree its numbers. Returns the committed tree and the finished one, both without what stayed
+    // the same.
     fn number(&mut self) -> Result<Beside, AllocError>
         requires end { IsAtSomeEnd self.old }
         requires room { HasRoomForTurns 1 self.old }
-        ensures tree { IfOk result (λ b. (p : syntax.Program) (s : State) (g : Progress) (tree : trees.Node) → StandsAtEnd p s g tree self.old → b.tree ≡ trimmed (numbered s.numbers tree).1) }
-        ensures beside { IfOk result (λ b. IsBeside self.old.shown.tree b) }
+        ensures beside { IfOk result (λ b. (p : syntax.Program) (s : State) (g : Progress) (tree : trees.Node) → StandsAtEnd p s g tree self.old
+            → IsBeside (trimmed_if s.tree) (trimmed (numbered s.numbers tree).1) b) }
         ensures numbers { OnOk result ((p : syntax.Program) (s : State) (g : Progress) (tree : trees.Node) → StandsAtEnd p s g tree self.old → HasNumbered p s g tree self.old self.new) }
         ensures rest { self.new ≡ record self.old { numbers = self.new.numbers; rendering = record self.old.rendering { trees = record self.old.rendering.trees { draft = self.new.rendering.trees.draft } } } }
     {
         self.facts();
         self.numbers = self.renderer.number(self.numbers);
-        self.renderer.finished(self.shown.tree())
+        self.renderer.finished()
+    }
+
+    // All hosts of the finished tree, if hosts are placed: they tell where these go.
+    fn hosts_around(&self, placed: &[u64]) -> Result<Vec<Host>, AllocError>
+        ensures { IfOk result (λ all. (tree : trees.Node) → IsTreeOf (Some tree) (grafted self.entry.now.rendering.trees.draft) → TellsWhere placed.now all.items tree) }
+    {
+        if placed.is_empty() {
+            return Ok(Vec::new(self.alloc));
+        }
+        self.renderer.finished_hosts()
+    }
+
+    // Prepares what is shown for the commit of a finished tree, by what it changes.
+    fn prepare_shown(&mut self, beside: &Beside) -> Result<Prepared, AllocError>
+        ensures ready { IfOk result (λ x. (old : Option trees.Node) (passive : effects.Passive) (new : trees.Node) → CanFollow old passive new beside.now self.old → IsPreparedFor old new self.new.shown x) }
+        ensures rest { self.new ≡ record self.old { shown = self.new.shown } }
+        ensures same { KeepsShown self.old.shown self.new.shown }
+    {
+        let pruned = beside.pruned_old.as_ref();
+        let changes = changes_between(self.alloc, pruned, &beside.pruned_new)?;
+        let all = self.hosts_around(&changes.placed)?;
+        self.shown.prepare(self.alloc, beside, changes, &all)
     }
 
     // Writes what a prepared commit does, and settles the hooks: an `Err` takes back what was written.
@@ -258,10 +291,8 @@ impl Root {
         requires room { self.old.commits + 1 < 2 ^ 64 }
         requires over { self.old.rendering.at ≡ Over }
         requires prepares { (old : Option trees.Node) × (new : trees.Node) × Prepares old new prepared.now }
-        requires at_hand { CanSettle self.old.rendering.program (kept_hooks self.old.rendering.hooks) self.old.shown.tree beside.now.tree first self.old.rendering.lanes self.old.rendering.cut }
-        requires beside { IsBeside self.old.shown.tree beside.now }
-        ensures settled { OnOk result ((s : State) (g : Progress) (x : trees.Node)
-            → IsSettlingOf self.old.rendering.program (kept_hooks self.old.rendering.hooks) self.old.shown.tree beside.now.tree first self.old.rendering.lanes self.old.rendering.cut s g x
+        requires at_hand { (s : State) × (g : Progress) × (x : trees.Node) × IsAtHand s g x first beside.now self.old.rendering }
+        ensures settled { OnOk result ((s : State) (g : Progress) (x : trees.Node) → IsAtHand s g x first beside.now self.old.rendering
             → KeepsAllHooks self.old.rendering.program (committed_state s g (numbered s.numbers x)) (kept_hooks self.new.rendering.hooks)) }
         ensures written { OnOk result ((old : Option trees.Node) (new : trees.Node) → Prepares old new prepared.now
             → log.new ≡ with_lines log.old (lines_of (self.old.commits + 1) (lanes_where (has self.old.rendering.lanes)) (counts_of self.old) old new)) }
@@ -277,7 +308,7 @@ impl Root {
             self.renderer.units(),
             self.renderer.bodies(),
         )?;
-        let settled = self.renderer.settle(self.shown.tree(), beside, first);
+        let settled = self.renderer.settle(beside, first);
         cut_back(log, len, settled)
     }
 
@@ -291,20 +322,18 @@ impl Root {
     ) -> Result<Prepared, AllocError>
         requires room { self.old.commits + 1 < 2 ^ 64 }
         requires over { self.old.rendering.at ≡ Over }
-        requires at_hand { CanSettle self.old.rendering.program (kept_hooks self.old.rendering.hooks) self.old.shown.tree beside.now.tree first self.old.rendering.lanes self.old.rendering.cut }
-        requires beside { IsBeside self.old.shown.tree beside.now }
-        requires can_show { CanShow beside.now.tree self.old.shown }
-        ensures ready { IfOk result (λ x. (old : Option trees.Node) (passive : effects.Passive) (new : trees.Node) → CanFollow beside.now.tree old passive new self.old.shown → IsPreparedFor old new self.new.shown x) }
-        ensures settled { OnOk result ((s : State) (g : Progress) (x : trees.Node)
-            → IsSettlingOf self.old.rendering.program (kept_hooks self.old.rendering.hooks) self.old.shown.tree beside.now.tree first self.old.rendering.lanes self.old.rendering.cut s g x
+        requires at_hand { (s : State) × (g : Progress) × (x : trees.Node) × IsAtHand s g x first beside.now self.old.rendering }
+        requires can_show { CanShow beside.now self.old }
+        ensures ready { IfOk result (λ x. (old : Option trees.Node) (passive : effects.Passive) (new : trees.Node) → CanFollow old passive new beside.now self.old → IsPreparedFor old new self.new.shown x) }
+        ensures settled { OnOk result ((s : State) (g : Progress) (x : trees.Node) → IsAtHand s g x first beside.now self.old.rendering
             → KeepsAllHooks self.old.rendering.program (committed_state s g (numbered s.numbers x)) (kept_hooks self.new.rendering.hooks)) }
-        ensures written { OnOk result ((old : Option trees.Node) (passive : effects.Passive) (new : trees.Node) → CanFollow beside.now.tree old passive new self.old.shown
+        ensures written { OnOk result ((old : Option trees.Node) (passive : effects.Passive) (new : trees.Node) → CanFollow old passive new beside.now self.old
             → log.new ≡ with_lines log.old (lines_of (self.old.commits + 1) (lanes_where (has self.old.rendering.lanes)) (counts_of self.old) old new)) }
         ensures rest { self.new ≡ record self.old { rendering = with_hooks self.old.rendering self.new.rendering.hooks; shown = self.new.shown } }
         ensures gave_up { OnErr result (GaveUp self.old self.new) }
         ensures unchanged { OnErr result (log.new ≡ log.old) }
     {
-        let prepared = self.shown.prepare(self.alloc, beside)?;
+        let prepared = self.prepare_shown(beside)?;
         self.settle(&prepared, beside, first, log)?;
         Ok(prepared)
     }
@@ -336,7 +365,7 @@ impl Root {
         let first = self.numbers.instance;
         let lanes = self.renderer.lanes();
         let beside = self.number()?;
-        let still = self.still(&beside.tree);
+        let still = self.still()?;
         let prepared = self.prepare(&beside, first, log)?;
         self.show(prepared);
         self.resources.commit(lanes, self.renderer.cut());

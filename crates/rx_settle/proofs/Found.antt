@@ -5,16 +5,16 @@ use Rattle.std.proofs.lemmas.List.{length-map}
 use Rattle.std.proofs.lemmas.List.Folds.{list_any-append}
 use Rattle.std.proofs.lemmas.Option.{slice_get-map, slice_get_within}
 use Rattle.std.specs.Borrow.{Bor}
-use Rattle.std.specs.List.{list_any}
 use Rattle.rx_base.specs.declared.cut.Cut.{Cut}
 use Rattle.rx_lane.specs.Lanes.{Lanes}
 use Rattle.rx_ast.specs.Syntax.{Program}
 use Rattle.rx_elem.specs.Spots.{Mounted}
 use Rattle.rx_hooks.specs.declared.hook.Hook.{Hook}
 use Rattle.rx_hook_store.specs.Gives.{has_work_in}
-use Rattle.rx_hook_store.specs.Working.{AreAllWorking}
+use Rattle.rx_hook_store.specs.Working.{AreAllWorking, AreOnlyWorking}
 use Rattle.rx_hook_store.proofs.Stores.{KeptBy, same_number}
-use Rattle.rx_settle.specs.Found.{AreIn, AreTaken, HasWorking, seen}
+use Rattle.rx_set.specs.Sets.{holds}
+use Rattle.rx_settle.specs.Found.{AreIn, AreTaken, HasWorkElsewhere, HasWorking, seen}
 use Rattle.rx_settle.specs.Passes.{AreApart, AreKept, AreSettled, IsSettledOver, KeepsOn, RendersShown, TellsOf, rests, has_instance, is_gone}
 use Rattle.rx_settle.specs.declared.made.NewHooks.{NewHooks}
 use Rattle.rx_settle.specs.Made.{AreMadeFor, AreOfNew, kept_with}
@@ -45,7 +45,7 @@ apart_more (x ∷ ws) m apart none (suc j) (suc k) a b lt here there =
 itself : (n : ℕ) → nat_eq n n ≡ true
 itself n = grind (arith, nat_tests)
 
-clash : {P : Type 0} (b : Bool) → b ≡ true → b ≡ false → P
+pub clash : {P : Type 0} (b : Bool) → b ≡ true → b ≡ false → P
 clash b is isnt = absurd (let f : ⊥ = cc in f)
 
 module _ (old now new : ℕ → Bool) (ms : List Mounted) (i : ℕ) (m : Mounted) (at : slice_get ms i ≡ Some m) (ws : List Mounted) (h : AreTaken old now ms i ws)
@@ -67,12 +67,18 @@ module _ (old now new : ℕ → Bool) (ms : List Mounted) (i : ℕ) (m : Mounted
       (λ k lt x there. still_out x.number (h.passed k lt x there))
       (λ x there. let same : m ≡ x = cc in subst (λ (y : Mounted). new y.number ≡ false) same is_out)
 
+  -- what is in the set was in it
+  not_new : (n : ℕ) → new n ≡ true → (b : Bool) → nat_eq m.number n ≡ b → now n ≡ true
+  not_new n is true e = clash (new n) is (updates n ∙ ap (λ b. cond b false (now n)) e)
+  not_new n is false e = sym (updates n ∙ ap (λ b. cond b false (now n)) e) ∙ is
+
   -- an instance whose number is in the set is found
   pub take_more : now m.number ≡ true → AreTaken old new ms (i + 1) (ws ++ m ∷ [])
   take_more is_in =
       record {
         within = λ k x there. here_or_before x (old_or_last ws m x k there);
         apart = apart_more ws m h.apart (unseen (has_instance ws m.number) refl);
+        were_in = λ n is. h.were_in n (not_new n is (nat_eq m.number n) refl);
         are_out = λ n has. gone n (nat_eq m.number n) refl (sym (list_any-append (λ y. nat_eq n y.number) ws (m ∷ [])) ∙ has);
         taken = λ n was_in is_not_in. list_any-append (λ y. nat_eq n y.number) ws (m ∷ []) ∙ comes n was_in is_not_in (nat_eq m.number n) refl;
         passed = passed_more;
@@ -106,6 +112,7 @@ module _ (old now new : ℕ → Bool) (ms : List Mounted) (i : ℕ) (m : Mounted
       record {
         within = h.within;
         apart = h.apart;
+        were_in = λ n is. h.were_in n (not_new n is (nat_eq m.number n) refl);
         are_out = λ n has. still_out n (h.are_out n has);
         taken = λ n was_in is_not_in. h.taken n was_in (was n is_not_in (nat_eq m.number n) refl);
         passed = passed_more;
@@ -141,6 +148,30 @@ module _ (lanes : Lanes) (cut : Cut) (kept : KeptBy) (old new : ℕ → Bool) (m
   -- if the set is empty in the end, each one with work is of the list
   pub all_in_list : ((n : ℕ) → new n ≡ false) → AreAllWorking lanes cut kept (has_instance ms)
   all_in_list empty n hooks is work = in_whole ms ws h.within n (h.taken n (all n hooks is work) (empty n))
+
+module _ (lanes : Lanes) (cut : Cut) (kept : KeptBy) (old new : ℕ → Bool) (ms ws : List Mounted) (only : AreOnlyWorking lanes cut kept old) (h : AreTaken old new ms (length ms) ws) where
+  -- a number that is left in the set is that of none of the list
+  elsewhere : (n : ℕ) → new n ≡ true → has_instance ms n ≡ false
+  elsewhere n left = go (has_instance ms n) refl
+    where
+      go : (b : Bool) → has_instance ms n ≡ b → b ≡ false
+      go true e =
+          let t = is_there ms n e in
+          clash (new n) left (subst (λ (k : ℕ). new k ≡ false) t.number_is (h.passed t.place (slice_get_within ms t.place t.instance t.at) t.instance t.at))
+      go false e = refl
+
+  -- so in its hooks there is work elsewhere
+  pub works_elsewhere : (n : ℕ) → new n ≡ true → HasWorkElsewhere lanes cut kept ms
+  works_elsewhere n left = record {
+    number = n;
+    elsewhere = elsewhere n left;
+    works = λ answers hooks histories is stand. only n answers hooks histories (h.were_in n left) is stand;
+  }
+
+-- a set that is not empty has a member
+pub first_member : (xs : List ℕ) → (xs ≡ [] → ⊥) → (n : ℕ) × (holds xs n ≡ true)
+first_member [] some = absurd (some refl)
+first_member (x ∷ xs) some = (x, ap (λ b. b || holds xs x) (itself x))
 
 -- hooks are kept of those that are found
 pub kept_of : (first : ℕ) (kept : KeptBy) (ms ws : List Mounted) → AreIn ms ws → AreKept first kept ms → AreKept first kept ws

@@ -1,12 +1,11 @@
 -- A commit of a tree whose instances have the numbers of the old one's.
-use Rattle.std.proofs.Common.{◌≡◌, ◌⊎◌, inl, inr, ℕ, zero, suc, ◌<◌, ◌≤◌, Bool, true, false, cond, not, ◌&&◌, ◌||◌, nat_eq, Option, Some, None, List, [], ◌∷◌, length, slice_get, refl, sym, ap, subst, ◌∙◌, arith}
+use Rattle.std.proofs.Common.{◌≡◌, ◌⊎◌, inl, inr, ℕ, zero, suc, ◌<◌, ◌≤◌, Bool, true, false, cond, not, ◌&&◌, ◌||◌, nat_eq, Option, Some, List, [], ◌∷◌, length, slice_get, refl, sym, ap, subst, ◌∙◌, arith}
 use Rattle.std.specs.List.{list_any}
 use Rattle.rx_elem.specs.Spots.{Mounted, mounted, numbers_of}
 use Rattle.rx_elem.specs.Trees.{Node}
 use Rattle.rx_meaning.specs.Settled.{HasOwnNumbers}
 use Rattle.rx_pruned.specs.Pruned.{ArePruned}
 use Rattle.prune_laws.proofs.Leaving.{left_alike}
-use Rattle.rx_hook_store.proofs.Stores.{KeptBy}
 use Rattle.rx_spots.specs.Places.{among}
 use Rattle.rx_settle.specs.Found.{AreIn, AreTaken}
 use Rattle.rx_settle.specs.Made.{AreMadeFor}
@@ -79,6 +78,7 @@ taken_of_whole old new ms fs ws vs are same h empty =
     (record {
       within = λ k m at. let w = h.within k m at in among_in old ms w.0 m (subst (λ (xs : List Mounted). slice_get xs w.0 ≡ Some m) are w.1);
       apart = h.apart;
+      were_in = h.were_in;
       are_out = h.are_out;
       taken = h.taken;
       passed = λ k lt m at. empty m.number;

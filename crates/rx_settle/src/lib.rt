@@ -8,4 +8,4 @@ mod rendering;
 mod settling;
 mod working;
 
-pub use settling::settle_hooks;
+pub use settling::{settle_all, settle_hooks};

@@ -4,7 +4,7 @@ ghost use Rattle.rx_set.specs.Sets.{holds};
 ghost use Rattle.rx_hook_store.specs.Store.{kept_hooks};
 ghost use Rattle.rx_hook_store.specs.Working.{AreAllWorking};
 ghost use Rattle.rx_settle.specs.Passes.{has_instance};
-ghost use Rattle.rx_settle.specs.Found.{AreTaken, HasWorking, seen};
+ghost use Rattle.rx_settle.specs.Found.{AreTaken, HasWorkElsewhere, HasWorking, seen};
 
 use rx_base::Cut;
 use rx_hook_store::HookStore;
@@ -59,6 +59,7 @@ pub(crate) fn working_of<'a>(
 ) -> Result<(Vec<&'a Mounted>, bool), AllocError>
     ensures found { IfOk result (λ r. HasWorking lanes cut (kept_hooks store.now) instances.now (seen r.0.items)) }
     ensures all { IfOk result (λ r. r.1 ≡ true → AreAllWorking lanes cut (kept_hooks store.now) (has_instance instances.now)) }
+    ensures others { IfOk result (λ r. r.1 ≡ false → HasWorkElsewhere lanes cut (kept_hooks store.now) instances.now) }
 {
     let mut numbers = store.working(alloc, lanes, cut)?;
     let found = take_known(alloc, &mut numbers, instances)?;

@@ -1,10 +1,10 @@
 -- Where there is no instance, and where no boundary is hidden.
-use Rattle.std.proofs.Common.{◌≡◌, ℕ, Bool, true, false, not, ◌&&◌, ◌||◌, List, [], ◌++◌, Option, Some, None, is_some, refl, sym, ap, ◌∙◌, append-nil}
+use Rattle.std.proofs.Common.{◌≡◌, ℕ, Bool, true, false, not, ◌&&◌, ◌||◌, [], ◌++◌, refl, sym, ◌∙◌}
 use Rattle.std.proofs.lemmas.List.Elements.{filter_map-append}
-use Rattle.rx_base.specs.Awaits.{Awaits, awaits_where, has, nothing}
+use Rattle.rx_base.specs.Awaits.{awaits_where, has, nothing}
 use Rattle.rx_base.specs.AwaitsLaws.{awaits_agree}
-use Rattle.rx_elem.specs.Spots.{Around, Mounted, around_children, mounted_at, mounted_in, spots, spots_in}
-use Rattle.rx_elem.specs.Trees.{Forest, Instance, Mark, Node, awaits_in, child, instance_in, is_hidden, node, none, of_boundary, of_catcher, of_host, of_instance, plain, vacant}
+use Rattle.rx_elem.specs.Spots.{Around, around_children, mounted_at, mounted_in, spots, spots_in}
+use Rattle.rx_elem.specs.Trees.{Forest, Mark, Node, awaits_in, child, is_hidden, node, none, of_boundary, of_catcher, of_host, of_instance, plain, vacant}
 use Rattle.rx_node.specs.Hides.{hides_in, hides_within}
 use Rattle.rx_node.specs.Mounts.{is_instance, mounts_in, mounts_within}
 use Rattle.rx_susp.specs.declared.boundary.BoundaryState.TheVariants.{Shown, Hidden}

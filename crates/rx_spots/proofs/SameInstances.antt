@@ -1,5 +1,5 @@
 -- Trees with the same instances, part by part.
-use Rattle.std.proofs.Common.{◌≡◌, ℕ, zero, suc, ◌+◌, ◌≤◌, Bool, true, false, not, cond, nat_eq, List, [], ◌∷◌, ◌++◌, Option, Some, None, drop, map, option_map, refl, sym, ap, ◌∙◌, arith, add-one}
+use Rattle.std.proofs.Common.{◌≡◌, ℕ, zero, suc, ◌+◌, ◌≤◌, Bool, true, false, not, cond, nat_eq, List, [], ◌∷◌, ◌++◌, Option, Some, None, drop, option_map, refl, sym, ap, ◌∙◌, arith, add-one}
 use Rattle.std.specs.List.{cons_option}
 use Rattle.std.specs.Option.{option_eq}
 use Rattle.std.proofs.lemmas.List.{map-append}
@@ -7,7 +7,7 @@ use Rattle.std.proofs.lemmas.List.Elements.{filter_map-append}
 use Rattle.rx_elem.specs.Trees.{Forest, Mark, Node, children_of, fallback_of, forest, height, height_in, mark_of, of_boundary, of_catcher, of_host, of_instance, plain}
 use Rattle.rx_elem.specs.Spots.{Around, Mounted, around_children, mounted_at, mounted_in, numbers_of, spots, spots_in}
 use Rattle.rx_node.specs.Mounts.{mounts_within}
-use Rattle.rx_spots.specs.Places.{HaveSame, HaveSameIn, mounting, mounting_at, own_number}
+use Rattle.rx_spots.specs.Places.{HaveSame, HaveSameIn, mounting_at, own_number}
 use Rattle.rx_spots.proofs.Lists.{same_number}
 use Rattle.rx_spots.proofs.Mounting.{mounted-node, own_mounted}
 use Rattle.rx_spots.proofs.Nothing.{nothing_mounted}

@@ -1,7 +1,8 @@
-use Rattle.rx_beside.proofs.Roots.{old_root}
+use Rattle.rx_beside.proofs.Ending.{whole_by}
 use Rattle.rx_beside.proofs.beside.read_roots.Goals as goal
 
-pub read_pair-requires-clause-old : goal.read_pair-requires-clause-old
-read_pair-requires-clause-old c =
-    old_root c.args.tree.now c.facts.ensures.fits c.facts.ensures.linked _ (c.is_made_for_root.ensures c.if-is_made_for_root.true) c.requires.current.0 c.requires.current.1.0 c.args.old.now
-    c.requires.current.1.1
+pub read_pair-requires-clause-pair : goal.read_pair-requires-clause-pair
+read_pair-requires-clause-pair c = record { made = c.requires.made; old = c.is_made_for.ensures c.if-is_made_for.true; was = c.requires.was; is = c.requires.is }
+
+pub returns : goal.returns
+returns c = λ o n was is. whole_by _ o n c.in_ok-both.both.old c.in_ok-both.both.new _ _ c.in_ok-both.ensures.old c.in_ok-both.ensures.new was is

@@ -1,27 +1,24 @@
-use Rattle.std.proofs.Common.{◌≡◌, [], length, refl, sym, ◌∙◌, eqb-true}
+use Rattle.std.proofs.Common.{◌≡◌, [], length, sym, ◌∙◌, eqb-true}
 use Rattle.std.proofs.lemmas.Result.{IfOk-weaker}
 use Rattle.std.specs.Option.{option_copied}
-use Rattle.rx_elem.specs.Compare.{compare_trees}
-use Rattle.rx_commit.proofs.Beside.{none-left, ops-of-all, ops-of-left}
+use Rattle.rx_commit.proofs.Beside.{all-told, none-left, ops-of-all, ops-of-left}
 use Rattle.rx_commit.proofs.prepared.ops_beside.Goals as goal
 
 pub returns-then-is_empty : goal.returns-then-is_empty
 returns-then-is_empty c =
-    let beside = c.args.beside.now in
     let placed = c.args.placed.now in
     let count : length placed ≡ 0 = eqb-true (length placed) 0 (sym c.is_empty.ensures ∙ c.if-is_empty.true) in
     let empty : placed ≡ [] = none-left placed count in
     IfOk-weaker c.changes_from.result _ _
-    (λ ops is present of.
-    ops-of-left (option_copied c.args.old) beside (compare_trees beside.pruned_old beside.pruned_new) placed ops.items (option_copied c.as_ref-before.result) c.requires.beside refl
-    c.requires.placed empty c.as_ref-before.ensures.value is present of)
+    (λ ops is old new beside present of tells.
+    ops-of-left old new c.args.beside.now placed ops.items (option_copied c.as_ref-before.result) beside c.requires empty c.as_ref-before.ensures.value is present of)
     c.changes_from.ensures
 
 pub returns-else-is_empty : goal.returns-else-is_empty
 returns-else-is_empty c =
-    let beside = c.args.beside.now in
+    let placed = c.args.placed.now in
     IfOk-weaker c.ops_from.result _ _
-    (λ ops is present of.
-    ops-of-all (option_copied c.args.old) beside (compare_trees beside.pruned_old beside.pruned_new) c.args.placed.now ops.items (option_copied c.as_ref-before.result) c.requires.beside refl
-    c.requires.placed c.as_ref-before.ensures.value is present of)
+    (λ ops is old new beside present of tells.
+    ops-of-all old new c.args.beside.now placed c.args.all.now ops.items (option_copied c.as_ref-before.result) beside c.requires c.as_ref-before.ensures.value
+    (all-told placed c.args.all.now new (sym c.is_empty.ensures ∙ c.if-is_empty.false) tells) is present of)
     c.ops_from.ensures

@@ -11,12 +11,12 @@ use Rattle.rx_host_ops.proofs.reading.+reading.Goals.{add_in-in-Some+in_ok-add_f
 
 pub add_from-returns : goal.add_from-returns
 add_from-returns t c =
-    let own = c.add_own.new.found.items in
+    let own = c.add_host.new.found.items in
     let inside = c.add_in.new.found.items in
     let node = c.args.node.now in
     on_ok_weaker c.add_in-2.result
     (λ all a host concealed. hosts-parts a node c.args.found.now.items own inside c.add_in-2.new.found.items
-    (c.in_ok-add_own.ensures a host concealed)
+    (c.in_ok-add_host.ensures.added a node host concealed c.element.ensures c.mark-mark.ensures)
     (c.in_ok-add_in.ensures (around_children a (mark_of node))
     (sym (ap (λ m. (around_children a m).host) c.mark-mark.ensures) ∙ c.parent_below.ensures a host)
     (sym (ap (λ m. (around_children a m).concealed) c.mark-mark.ensures) ∙ c.concealed_below.ensures a concealed)

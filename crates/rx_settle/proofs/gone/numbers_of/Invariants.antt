@@ -1,4 +1,4 @@
-use Rattle.std.proofs.Common.{◌≡◌, ℕ, nat_eq, take}
+use Rattle.std.proofs.Common.{◌≡◌, ℕ, take}
 use Rattle.rx_set.specs.Sets.{holds}
 use Rattle.rx_settle.specs.Passes.{has_instance}
 use Rattle.rx_settle.proofs.gone.numbers_of.Given as goal

@@ -1,5 +1,4 @@
 use Rattle.std.proofs.Common.{ℕ, Some, false, ◌≡◌, ◌∙◌, ap}
-use Rattle.std.proofs.lemmas.Result.{on_ok_weaker}
 use Rattle.rx_set.specs.Sets.{holds}
 use Rattle.std.specs.Option.{option_copied}
 use Rattle.rx_elem.specs.Spots.{mounted}
@@ -21,11 +20,11 @@ settle_working-requires-clause-kept c =
     let empty : (n : ℕ) → left n ≡ false = λ n. ap (λ l. holds l n) (c.is_empty.ensures.0 c.if-is_empty.true) in
     let taken = taken_of_whole asked left ms c.deref.result.now ws vs (c.deref.ensures.value ∙ c.in_ok-instances.ensures) (ap seen c.deref-then-is_empty.ensures.value) c.in_ok-working.ensures empty in
     kept_of c.args.first (kept_hooks c.args.store.now) ms vs taken.within
-    (pruned_kept c.args.checked.now (kept_hooks c.args.store.now) (option_copied c.args.old) c.args.new.now c.args.first c.args.lanes c.args.cut can.state can.progress can.rendered can.is
-    (option_copied c.args.pruned_old) c.args.pruned_new.now c.requires.pruned)
+    (pruned_kept c.args.checked.now (kept_hooks c.args.store.now) can.0 can.1 c.args.first c.args.lanes c.args.cut can.2.0.state can.2.0.progress can.2.0.rendered can.2.0.is
+    (option_copied c.args.pruned_old) c.args.pruned_new.now can.2.1)
 
 pub returns-then-is_empty-clause-settled : goal.returns-then-is_empty-clause-settled
-returns-then-is_empty-clause-settled c =
+returns-then-is_empty-clause-settled c done old new s g x pruned is =
     let kept = kept_hooks c.args.store.now in
     let last = kept_hooks c.settle_working.new.store in
     let ms = mounted (Some c.args.pruned_new.now) in
@@ -35,22 +34,16 @@ returns-then-is_empty-clause-settled c =
     let vs = seen c.deref-then-is_empty.result.now in
     let empty : (n : ℕ) → left n ≡ false = λ n. ap (λ l. holds l n) (c.is_empty.ensures.0 c.if-is_empty.true) in
     let taken = taken_of_whole asked left ms c.deref.result.now ws vs (c.deref.ensures.value ∙ c.in_ok-instances.ensures) (ap seen c.deref-then-is_empty.ensures.value) c.in_ok-working.ensures empty in
-    on_ok_weaker c.settle_working.result
-    (λ over s g x is.
-    settled_keeps c.args.checked.now kept (option_copied c.args.old) c.args.new.now c.args.first c.args.lanes c.args.cut s g x is (option_copied c.args.pruned_old) c.args.pruned_new.now
-    c.requires.pruned last
-    (over (mounted (option_copied c.args.pruned_old)) ms
-    (pruned_apart c.args.checked.now kept (option_copied c.args.old) c.args.new.now c.args.first c.args.lanes c.args.cut s g x is (option_copied c.args.pruned_old) c.args.pruned_new.now
-    c.requires.pruned)
+    settled_keeps c.args.checked.now kept old new c.args.first c.args.lanes c.args.cut s g x is (option_copied c.args.pruned_old) c.args.pruned_new.now pruned last
+    (c.in_ok-settle_working.ensures.settled (mounted (option_copied c.args.pruned_old)) ms
+    (pruned_apart c.args.checked.now kept old new c.args.first c.args.lanes c.args.cut s g x is (option_copied c.args.pruned_old) c.args.pruned_new.now pruned)
     (has_working c.args.lanes c.args.cut kept asked left ms vs c.in_ok-numbers.ensures.all taken)
-    (pruned_stay c.args.checked.now kept (option_copied c.args.old) c.args.new.now c.args.first c.args.lanes c.args.cut s g x is (option_copied c.args.pruned_old) c.args.pruned_new.now
-    c.requires.pruned (c.have_same_instances.ensures c.if-have_same_instances.true)))
-    (λ n hooks has is_kept work. all_in_list c.args.lanes c.args.cut kept asked left ms vs c.in_ok-numbers.ensures.all taken empty n hooks is_kept work))
-    c.settle_working.ensures.settled
+    (pruned_stay c.args.checked.now kept old new c.args.first c.args.lanes c.args.cut s g x is (option_copied c.args.pruned_old) c.args.pruned_new.now pruned
+    (c.have_same_instances.ensures.same c.if-have_same_instances.true)))
+    (λ n hooks has is_kept work. all_in_list c.args.lanes c.args.cut kept asked left ms vs c.in_ok-numbers.ensures.all taken empty n hooks is_kept work)
 
 pub returns-then-is_empty-clause-gone : goal.returns-then-is_empty-clause-gone
-returns-then-is_empty-clause-gone c =
-    let can = c.requires.can in
+returns-then-is_empty-clause-gone c done old new k m pruned can =
     let kept = kept_hooks c.args.store.now in
     let last = kept_hooks c.settle_working.new.store in
     let ms = mounted (Some c.args.pruned_new.now) in
@@ -60,14 +53,10 @@ returns-then-is_empty-clause-gone c =
     let vs = seen c.deref-then-is_empty.result.now in
     let empty : (n : ℕ) → left n ≡ false = λ n. ap (λ l. holds l n) (c.is_empty.ensures.0 c.if-is_empty.true) in
     let taken = taken_of_whole asked left ms c.deref.result.now ws vs (c.deref.ensures.value ∙ c.in_ok-instances.ensures) (ap seen c.deref-then-is_empty.ensures.value) c.in_ok-working.ensures empty in
-    on_ok_weaker c.settle_working.result
-    (λ over.
-    settled_gone c.args.checked.now kept last (option_copied c.args.old) c.args.new.now (option_copied c.args.pruned_old) c.args.pruned_new.now c.args.first c.args.lanes c.args.cut
-    c.requires.pruned
-    (over (mounted (option_copied c.args.pruned_old)) ms
-    (pruned_apart c.args.checked.now kept (option_copied c.args.old) c.args.new.now c.args.first c.args.lanes c.args.cut can.state can.progress can.rendered can.is
-    (option_copied c.args.pruned_old) c.args.pruned_new.now c.requires.pruned)
+    settled_gone c.args.checked.now kept last old new (option_copied c.args.pruned_old) c.args.pruned_new.now c.args.first c.args.lanes c.args.cut pruned
+    (c.in_ok-settle_working.ensures.settled (mounted (option_copied c.args.pruned_old)) ms
+    (pruned_apart c.args.checked.now kept old new c.args.first c.args.lanes c.args.cut can.state can.progress can.rendered can.is (option_copied c.args.pruned_old) c.args.pruned_new.now pruned)
     (has_working c.args.lanes c.args.cut kept asked left ms vs c.in_ok-numbers.ensures.all taken)
-    (pruned_stay c.args.checked.now kept (option_copied c.args.old) c.args.new.now c.args.first c.args.lanes c.args.cut can.state can.progress can.rendered can.is
-    (option_copied c.args.pruned_old) c.args.pruned_new.now c.requires.pruned (c.have_same_instances.ensures c.if-have_same_instances.true))))
-    c.settle_working.ensures.settled
+    (pruned_stay c.args.checked.now kept old new c.args.first c.args.lanes c.args.cut can.state can.progress can.rendered can.is (option_copied c.args.pruned_old) c.args.pruned_new.now pruned
+    (c.have_same_instances.ensures.same c.if-have_same_instances.true)))
+    k m

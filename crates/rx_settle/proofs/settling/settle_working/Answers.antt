@@ -1,5 +1,4 @@
 use Rattle.std.proofs.Common.{None, cond, refl, sym, ap}
-use Rattle.std.proofs.lemmas.Result.{on_ok_weaker}
 use Rattle.rx_hook_store.specs.Store.{kept_hooks}
 use Rattle.rx_settle.specs.Found.{seen}
 use Rattle.rx_settle.proofs.Found.{settled_over}

@@ -1,4 +1,3 @@
-use Rattle.std.proofs.Common.{nat_eq}
 use Rattle.rx_set.specs.Sets.{holds}
 use Rattle.rx_settle.specs.Found.{AreTaken, seen}
 use Rattle.rx_settle.proofs.working.take_known.Given as goal

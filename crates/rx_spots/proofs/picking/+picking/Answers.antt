@@ -1,7 +1,7 @@
 use Rattle.std.proofs.Common.{append-nil, arith, ap, sym, ◌∙◌, ◌+◌, ◌++◌, drop}
 use Rattle.rx_set.specs.Sets.{holds}
 use Rattle.std.proofs.lemmas.Result.{on_ok_weaker}
-use Rattle.rx_elem.specs.Trees.{children_of, forest, mark_of}
+use Rattle.rx_elem.specs.Trees.{forest, mark_of}
 use Rattle.rx_elem.specs.Spots.{mounted_at, spots_in, around_children}
 use Rattle.rx_spots.specs.Places.{among}
 use Rattle.rx_spots.proofs.Among.{among-more, among-parts, among-vacant}

@@ -2,21 +2,19 @@ use Rattle.std.proofs.Common.{◌∙◌, ap}
 use Rattle.std.proofs.lemmas.Result.{on_ok_weaker}
 use Rattle.rx_lane.specs.Lanes.{has, lanes_where}
 use Rattle.rx_lines.specs.Lines.{committed}
-use Rattle.rx_writing.proofs.Behind.{goes_on-line, goes_on-again}
-use Rattle.rx_commit.proofs.Lines.{own-parts}
+use Rattle.rx_writing.proofs.Behind.{goes_on-again}
+use Rattle.rx_commit.proofs.Lines.{goes_on-commit, own-parts}
 use Rattle.rx_commit.proofs.prepared.Prepared.write_own.Goals as goal
 
 pub returns-in_err-add_ops-clause-goes_on : goal.returns-in_err-add_ops-clause-goes_on
 returns-in_err-add_ops-clause-goes_on c =
-    goes_on-again _ _ _ (goes_on-line c.args.log.now c.commit_line.new.self
-    (committed c.args.number (lanes_where (has c.args.lanes)) (record { units = c.args.units; bodies = c.args.bodies }) c.self.inside.tree)
-    (c.in_ok-commit_line.ensures.written c.self.inside.tree)) c.in_err-add_ops.ensures.goes_on
+    goes_on-again _ _ _ (goes_on-commit c.args.log.now c.commit_line.new.self c.args.number (lanes_where (has c.args.lanes))
+    (record { units = c.args.units; bodies = c.args.bodies }) c.in_ok-commit_line.ensures.written) c.in_err-add_ops.ensures.goes_on
 
 pub returns-in_err-add_caught-clause-goes_on : goal.returns-in_err-add_caught-clause-goes_on
 returns-in_err-add_caught-clause-goes_on c =
-    goes_on-again _ _ _ (goes_on-line c.args.log.now c.commit_line.new.self
-    (committed c.args.number (lanes_where (has c.args.lanes)) (record { units = c.args.units; bodies = c.args.bodies }) c.self.inside.tree)
-    (c.in_ok-commit_line.ensures.written c.self.inside.tree))
+    goes_on-again _ _ _ (goes_on-commit c.args.log.now c.commit_line.new.self c.args.number (lanes_where (has c.args.lanes))
+    (record { units = c.args.units; bodies = c.args.bodies }) c.in_ok-commit_line.ensures.written)
     (goes_on-again _ _ _ c.in_ok-add_ops.ensures.goes_on c.in_err-add_caught.ensures.goes_on)
 
 pub returns-clause-written : goal.returns-clause-written
@@ -31,7 +29,6 @@ returns-clause-written c = λ new.
 
 pub returns-clause-goes_on : goal.returns-clause-goes_on
 returns-clause-goes_on c =
-    goes_on-again _ _ _ (goes_on-line c.args.log.now c.commit_line.new.self
-    (committed c.args.number (lanes_where (has c.args.lanes)) (record { units = c.args.units; bodies = c.args.bodies }) c.self.inside.tree)
-    (c.in_ok-commit_line.ensures.written c.self.inside.tree))
+    goes_on-again _ _ _ (goes_on-commit c.args.log.now c.commit_line.new.self c.args.number (lanes_where (has c.args.lanes))
+    (record { units = c.args.units; bodies = c.args.bodies }) c.in_ok-commit_line.ensures.written)
     (goes_on-again _ _ _ c.in_ok-add_ops.ensures.goes_on (goes_on-again _ _ _ c.in_ok-add_caught.ensures.goes_on c.add_lines.ensures.goes_on))

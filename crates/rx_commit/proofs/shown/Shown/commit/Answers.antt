@@ -1,4 +1,4 @@
-use Rattle.std.proofs.Common.{◌∙◌, Some, ap}
+use Rattle.std.proofs.Common.{◌∙◌, ap}
 use Rattle.rx_host.specs.Kept.{forest_kept}
 use Rattle.rx_commit.proofs.Committed.{committed-here}
 use Rattle.rx_commit.proofs.shown.Shown.commit.Goals as goal
@@ -6,7 +6,6 @@ use Rattle.rx_commit.proofs.shown.Shown.commit.Goals as goal
 pub returns : goal.returns
 returns c = λ tree next stands is_commit is.
     record {
-      tree_is = ap Some (ap (λ p. p.tree) c.prepared.view_is ∙ is.tree_is);
       hosts_are =
           committed-here tree next (forest_kept c.self.inside.hosts) (forest_kept c.apply_all.new.tree) c.prepared.inside.ops.items
           (ap (λ v. forest_kept v.hosts) c.self.view_is ∙ stands) (ap (λ p. p.ops) c.prepared.view_is ∙ is.ops_are) is_commit c.apply_all.ensures;

@@ -1,3 +1,4 @@
+use Rattle.std.specs.Prelude.{Some}
 use Rattle.std.proofs.Common.{sym, ap, subst, ◌∙◌}
 use Rattle.std.proofs.lemmas.Result.{IfOk-weaker}
 use Rattle.rx_lane.specs.Lanes.{Lanes}
@@ -17,9 +18,9 @@ returns-then-not-hides c p s g tree h =
 
 pub returns : goal.returns
 returns c =
-    IfOk-weaker c.outcome.result _ _
+    IfOk-weaker c.deferral.result _ _
     (λ waits is p s g tree h.
     let at = subst (λ (v : Rooted). StandsAtEnd p s g tree v) (sym c.self.view_is) h in
-    is s.tree tree at.shows.tree_is (c.in_ok-beside.ensures.tree tree at.progress.there) (if_settled_present p (known_by (sight_of p s g)) s.tree at.progress.renders.settled)
+    is s.tree tree (c.in_ok-finished.ensures s.tree tree at.current at.progress.there) (if_settled_present p (known_by (sight_of p s g)) s.tree at.progress.renders.settled)
     ∙ ap (λ (ls : Lanes). outcome ls s.tree tree) (c.lanes-lanes.ensures ∙ at.progress.renders.lanes))
-    c.outcome.ensures
+    c.deferral.ensures

@@ -25,14 +25,29 @@ number-self-inside-requires-clause-few c =
     let h = subst (λ (v : Rooted). StandsAtEnd is.program is.state is.progress is.tree v) (sym c.self.view_is) is.stands in
     (is.tree, h.progress.there, few_at_end is.program is.state is.progress is.tree c.args.self.now c.facts.ensures.bounded is.stands)
 
-pub returns-clause-tree : goal.returns-clause-tree
-returns-clause-tree c =
+pub finished-requires-clause-finished : goal.finished-requires-clause-finished
+finished-requires-clause-finished c =
+    let is = c.requires.end in
+    let h = subst (λ (v : Rooted). StandsAtEnd is.program is.state is.progress is.tree v) (sym c.self.view_is) is.stands in (
+      (numbered is.state.numbers is.tree).1,
+      subst (λ n. IsTreeOf (Some (numbered n is.tree).1) (grafted c.number-self-inside.new.self.trees.draft)) h.numbers (c.number-self-inside.ensures.tree is.tree h.progress.there h.numbered),
+    )
+
+pub finished-requires-clause-current : goal.finished-requires-clause-current
+finished-requires-clause-current c =
+    let is = c.requires.end in
+    let h = subst (λ (v : Rooted). StandsAtEnd is.program is.state is.progress is.tree v) (sym c.self.view_is) is.stands in
+    (is.state.tree, subst (λ (r : Rendering). IsTreeOf is.state.tree r.trees.current) (sym c.number-self-inside.ensures.draft) h.current)
+
+pub returns-clause-beside : goal.returns-clause-beside
+returns-clause-beside c =
     if_ok c.finished.result
     (λ b told p s g tree h.
     let k = subst (λ (v : Rooted). StandsAtEnd p s g tree v) (sym c.self.view_is) h in
-    told (numbered s.numbers tree).1
+    told s.tree (numbered s.numbers tree).1
+    (subst (λ (r : Rendering). IsTreeOf s.tree r.trees.current) (sym c.number-self-inside.ensures.draft) k.current)
     (subst (λ n. IsTreeOf (Some (numbered n tree).1) (grafted c.number-self-inside.new.self.trees.draft)) k.numbers (c.number-self-inside.ensures.tree tree k.progress.there k.numbered)))
-    c.finished.ensures.tree
+    c.finished.ensures
 
 pub returns-clause-numbers : goal.returns-clause-numbers
 returns-clause-numbers c =

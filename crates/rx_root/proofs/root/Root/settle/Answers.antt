@@ -1,19 +1,17 @@
 use Rattle.std.proofs.Common.{ℕ, ◌+◌, Option, refl, sym, ap, ◌∙◌, subst}
-use Rattle.std.specs.Option.{option_copied}
 use Rattle.rx_lane.specs.Lanes.{Lanes, has, lanes_where}
 use Rattle.rx_ast.specs.Syntax.{Program}
 use Rattle.rx_elem.specs.Numbers.{numbered}
-use Rattle.rx_elem.specs.Trees.{Node}
-use Rattle.rx_pruned.specs.Besides.{IsBeside}
 use Rattle.rx_model.specs.Committing.{committed_state}
 use Rattle.rx_model.specs.HooksOf.{KeepsAllHooks}
 use Rattle.rx_hook_store.specs.Store.{kept_hooks}
 use Rattle.rx_commit.specs.Written.{lines_of}
 use Rattle.rx_writing.specs.Written.{with_lines}
+use Rattle.rx_render.specs.Settling.{IsAtHand}
 use Rattle.rx_root.specs.Rooted.{Rooted}
 use Rattle.rx_root.specs.Turning.{counts_of}
 use Rattle.rx_root.specs.contracts.root.Root.{the_view}
-use Rattle.rx_root.proofs.Broken.{cut_again, err_as, ok_as, on_err, settled_keeps, settles_at, settling_at}
+use Rattle.rx_root.proofs.Broken.{cut_again, err_as, ok_as, on_err, settled_keeps}
 use Rattle.rx_root.proofs.TurnsTaken.{on_ok}
 use Rattle.rx_root.proofs.root.Root.settle.Goals as goal
 
@@ -22,19 +20,15 @@ settle-settled-requires-clause-over c = ap (λ (v : Rooted). v.rendering.at) c.s
 
 pub settle-settled-requires-clause-at_hand : goal.settle-settled-requires-clause-at_hand
 settle-settled-requires-clause-at_hand c =
-    settles_at c.args.self.now (the_view c.self.inside) (option_copied c.tree.result) c.args.beside.now.tree c.args.beside.now.tree c.args.first c.self.view_is c.tree.ensures refl c.requires.at_hand
-
-pub settle-settled-requires-clause-beside : goal.settle-settled-requires-clause-beside
-settle-settled-requires-clause-beside c =
-    subst (λ (o : Option Node). IsBeside o c.args.beside.now) (sym (c.tree.ensures ∙ ap (λ (v : Rooted). v.shown.tree) c.self.view_is)) c.requires.beside
+    let h = c.requires.at_hand in
+    (h.0, h.1, h.2, subst (λ (v : Rooted). IsAtHand h.0 h.1 h.2 c.args.first c.args.beside.now v.rendering) (sym c.self.view_is) h.3)
 
 pub returns-clause-settled : goal.returns-clause-settled
 returns-clause-settled c =
     ok_as c.cut_back.result c.settle-settled.result _ _ c.cut_back.ensures.same
     (λ settled s g x h.
     subst (λ (q : Program). KeepsAllHooks q (committed_state s g (numbered s.numbers x)) (kept_hooks c.settle-settled.new.self.hooks)) (ap (λ (v : Rooted). v.rendering.program) c.self.view_is)
-    (settled s g x
-    (settling_at c.args.self.now (the_view c.self.inside) (option_copied c.tree.result) c.args.beside.now.tree c.args.beside.now.tree c.args.first s g x c.self.view_is c.tree.ensures refl h)))
+    (settled s g x (subst (λ (v : Rooted). IsAtHand s g x c.args.first c.args.beside.now v.rendering) (sym c.self.view_is) h)))
     c.settle-settled.ensures.settled
 
 pub returns-clause-written : goal.returns-clause-written

@@ -3,17 +3,26 @@ use Rattle.rx_check.specs.Accepted.{IsAccepted}
 use Rattle.rx_elem.specs.Numbers.{numbered}
 use Rattle.rx_model.specs.Laws.{IsBounded}
 use Rattle.rx_render.specs.Rendering.{Rendering}
-use Rattle.rx_pruned.specs.Besides.{IsBeside}
 use Rattle.rx_resources.specs.Kept.{committed}
 use Rattle.rx_root.specs.Rooted.{Rooted}
 use Rattle.rx_root.specs.Turning.{counts_of}
 use Rattle.rx_root.specs.contracts.root.Root.{the_view}
 use Rattle.rx_root.proofs.Broken.{any_err, gave_up_same, numbered_gave_up}
-use Rattle.rx_root.proofs.CommitStands.{numbered_knows, numbered_over, settling_of, follows_of, HasCommitted, commit_stands, commit_written}
+use Rattle.rx_root.proofs.CommitStands.{numbered_knows, numbered_over, at_hand_of, follows_of, HasCommitted, commit_stands, commit_written}
 use Rattle.rx_root.proofs.root.Root.try_commit.Goals as goal
 
-pub still-still-requires : goal.still-still-requires
-still-still-requires c =
+pub still-requires-clause-over : goal.still-requires-clause-over
+still-requires-clause-over c =
+    let e = c.requires.end in
+    numbered_over e.program e.state e.progress e.tree c.args.self.now c.number.new.self e.stands (c.in_ok-beside.ensures.numbers e.program e.state e.progress e.tree e.stands)
+
+pub still-requires-clause-finished : goal.still-requires-clause-finished
+still-requires-clause-finished c =
+    let e = c.requires.end in
+    ((numbered e.state.numbers e.tree).1, (c.in_ok-beside.ensures.numbers e.program e.state e.progress e.tree e.stands).there)
+
+pub still-requires-clause-since : goal.still-requires-clause-since
+still-requires-clause-since c =
     let e = c.requires.end in
     record {
       program = e.program;
@@ -37,19 +46,13 @@ prepare-requires-clause-over c =
 pub prepare-requires-clause-at_hand : goal.prepare-requires-clause-at_hand
 prepare-requires-clause-at_hand c =
     let e = c.requires.end in
-    let n = c.in_ok-beside.ensures.numbers e.program e.state e.progress e.tree e.stands in
-    record {
-      state = e.state;
-      progress = e.progress;
-      rendered = e.tree;
-      is = settling_of e.program e.state e.progress e.tree c.args.self.now c.number.new.self e.stands n (subst IsBounded e.stands.program c.facts.ensures.bounded) c.number.new.self.shown.tree
-          c.in_ok-beside.beside.tree c.self.inside.numbers.instance refl (c.in_ok-beside.ensures.tree e.program e.state e.progress e.tree e.stands)
-          (ap (λ (v : Rooted). v.numbers.instance) c.self.view_is);
-    }
-
-pub prepare-requires-clause-beside : goal.prepare-requires-clause-beside
-prepare-requires-clause-beside c =
-    subst (λ (v : Rooted). IsBeside v.shown.tree c.in_ok-beside.beside) (sym c.in_ok-beside.ensures.rest) c.in_ok-beside.ensures.beside
+    let n = c.in_ok-beside.ensures.numbers e.program e.state e.progress e.tree e.stands in (
+      e.state,
+      e.progress,
+      e.tree,
+      at_hand_of e.program e.state e.progress e.tree c.args.self.now c.number.new.self e.stands n (subst IsBounded e.stands.program c.facts.ensures.bounded) c.in_ok-beside.beside
+          (c.in_ok-beside.ensures.beside e.program e.state e.progress e.tree e.stands) c.self.inside.numbers.instance (ap (λ (v : Rooted). v.numbers.instance) c.self.view_is),
+    )
 
 pub prepare-requires-clause-can_show : goal.prepare-requires-clause-can_show
 prepare-requires-clause-can_show c =
@@ -59,8 +62,8 @@ prepare-requires-clause-can_show c =
       old = e.state.tree;
       passive = e.state.passive;
       new = (numbered e.state.numbers e.tree).1;
-      follows = follows_of e.program e.state e.progress e.tree c.args.self.now c.number.new.self e.stands n (subst IsBounded e.stands.program c.facts.ensures.bounded)
-          (subst IsAccepted e.stands.program c.facts.ensures.accepted) c.in_ok-beside.beside.tree (c.in_ok-beside.ensures.tree e.program e.state e.progress e.tree e.stands);
+      follows = follows_of e.program e.state e.progress e.tree c.args.self.now c.number.new.self e.stands n (subst IsBounded e.stands.program c.facts.ensures.bounded) c.in_ok-beside.beside
+          (c.in_ok-beside.ensures.beside e.program e.state e.progress e.tree e.stands) (subst IsAccepted e.stands.program c.facts.ensures.accepted);
     }
 
 pub show-requires-clause-room : goal.show-requires-clause-room
@@ -78,12 +81,15 @@ show-requires-clause-ready c =
       old = e.state.tree;
       new = (numbered e.state.numbers e.tree).1;
       is = c.in_ok-prepared.ensures.ready e.state.tree e.state.passive (numbered e.state.numbers e.tree).1
-          (follows_of e.program e.state e.progress e.tree c.args.self.now c.number.new.self e.stands n (subst IsBounded e.stands.program c.facts.ensures.bounded)
-          (subst IsAccepted e.stands.program c.facts.ensures.accepted) c.in_ok-beside.beside.tree (c.in_ok-beside.ensures.tree e.program e.state e.progress e.tree e.stands));
+          (follows_of e.program e.state e.progress e.tree c.args.self.now c.number.new.self e.stands n (subst IsBounded e.stands.program c.facts.ensures.bounded) c.in_ok-beside.beside
+          (c.in_ok-beside.ensures.beside e.program e.state e.progress e.tree e.stands) (subst IsAccepted e.stands.program c.facts.ensures.accepted));
     }
 
 pub returns-in_err-beside-clause-gave_up : goal.returns-in_err-beside-clause-gave_up
 returns-in_err-beside-clause-gave_up c = any_err c.from_residual.result _ (numbered_gave_up c.args.self.now c.number.new.self c.number.new.self c.number.ensures.rest (gave_up_same c.number.new.self))
+
+pub returns-in_err-still-clause-gave_up : goal.returns-in_err-still-clause-gave_up
+returns-in_err-still-clause-gave_up c = any_err c.from_residual-in_err-still.result _ (numbered_gave_up c.args.self.now c.number.new.self c.number.new.self c.in_ok-beside.ensures.rest (gave_up_same c.number.new.self))
 
 pub returns-in_err-prepared-clause-gave_up : goal.returns-in_err-prepared-clause-gave_up
 returns-in_err-prepared-clause-gave_up c = any_err c.from_residual-in_err-prepared.result _ (numbered_gave_up c.args.self.now c.number.new.self c.prepare.new.self c.in_ok-beside.ensures.rest c.in_err-prepared.ensures.gave_up)
@@ -96,10 +102,9 @@ returns-clause-done c p s g tree h reached =
     let y = the_view c.self-2.inside in
     let n = c.in_ok-beside.ensures.numbers p s g tree h in
     let bounded = subst IsBounded h.program c.facts.ensures.bounded in
-    let is_new = c.in_ok-beside.ensures.tree p s g tree h in
-    let follows = follows_of p s g tree v x h n bounded (subst IsAccepted h.program c.facts.ensures.accepted) c.in_ok-beside.beside.tree is_new in
-    let settling =
-    settling_of p s g tree v x h n bounded x.shown.tree c.in_ok-beside.beside.tree c.self.inside.numbers.instance refl is_new (ap (λ (z : Rooted). z.numbers.instance) c.self.view_is) in
+    let beside = c.in_ok-beside.ensures.beside p s g tree h in
+    let follows = follows_of p s g tree v x h n bounded c.in_ok-beside.beside beside (subst IsAccepted h.program c.facts.ensures.accepted) in
+    let at_hand = at_hand_of p s g tree v x h n bounded c.in_ok-beside.beside beside c.self.inside.numbers.instance (ap (λ (z : Rooted). z.numbers.instance) c.self.view_is) in
     let settled = ap (λ (z : Rooted). z.rendering) c.in_ok-prepared.ensures.rest in
     let is_shown =
     c.self-2.view_is ∙ c.show.ensures.rest
@@ -114,15 +119,15 @@ returns-clause-done c p s g tree h reached =
       is_shown = is_shown;
       is_last = c.commit-2.ensures;
       lanes = c.lanes-lanes.result;
-      still = c.still-still.result;
+      still = c.in_ok-still.still;
       is_schedule = c.finished.ensures;
       lanes_are = lanes_are;
       is_kept = c.commit.ensures ∙ (λ i. map (committed (lanes_are i) (cut_is i)) y.resources);
-      still_is = c.still-still.ensures p s g (numbered s.numbers tree).1 (numbered_knows p s g tree v x h n) is_new;
+      still_is = c.in_ok-still.ensures p s g (numbered s.numbers tree).1 (numbered_knows p s g tree v x h n) n.there;
     } in
     record {
       stands = commit_stands p s g tree v x h n w c.show.new.self.shown y c.commit-2.new.self c.finished.new.self c.commit.new.self has_committed (counts_of v) reached
-          (c.in_ok-prepared.ensures.settled s g tree settling)
+          (c.in_ok-prepared.ensures.settled s g tree at_hand)
           (c.show.ensures.shown s.tree (numbered s.numbers tree).1 (c.in_ok-prepared.ensures.ready s.tree s.passive (numbered s.numbers tree).1 follows));
       written = commit_written p s g tree v x h n c.args.log.now c.prepare.new.log
           (c.in_ok-prepared.ensures.written s.tree s.passive (numbered s.numbers tree).1 follows);
