@@ -5,3 +5,4 @@ pub mod Listing
 pub mod SameTexts
 pub mod Shapes
 pub mod OneList
+pub mod Evaluating

@@ -1,3 +1,5 @@
 pub mod Seeing
 pub mod PlaceView
 pub mod Texts
+pub mod Giving
+pub mod Evaluated

@@ -4,11 +4,11 @@ use Rattle.rx_base.specs.declared.cut.Cut.{Cut}
 use Rattle.rx_lane.specs.Lanes.{Lanes}
 use Rattle.rx_ast.specs.Syntax.{Program}
 use Rattle.rx_rules.specs.Names.{component_at}
-use Rattle.rx_elem.specs.Elements.{Element}
+use Rattle.rx_elem.specs.Elements.{Element, Elements, listed}
 use Rattle.rx_elem.specs.Trees.{Forest, Instance, Node}
 use Rattle.rx_hooks.specs.declared.hook.Hook.{Hook}
 use Rattle.rx_meaning.specs.Body.{Body, Inputs, body_of}
-use Rattle.rx_meaning.specs.Fresh.{Sight, resources_seen, versions_seen}
+use Rattle.rx_meaning.specs.Fresh.{Contexts, Sight, inputs_at, resources_seen, versions_seen}
 use Rattle.rx_meaning.specs.Settled.{DoneBefore}
 use Rattle.rx_model.specs.State.{State}
 use Rattle.rx_model.specs.HooksOf.{KeepsAllHooks}
@@ -42,6 +42,12 @@ number_in i = option_and_then (λ i. i.number) i
 -- hooks give a render the values of an instance that has a number
 abbrev pub GivesHooks : Sight → KeptBy → Option Instance → Type 0
 GivesHooks s kept old = (i : Instance) (n : ℕ) → old ≡ Some i → i.number ≡ Some n → GivesValues s kept n i.initials
+
+-- A component gives this body at a place: from these props, children and contexts, and from the hooks of its old instance, which has this number, if it has one.
+abbrev pub IsBodyAt : Snapshot → (component : ℕ) → (props : List ℤ) → (children : List Element) → (number : Option ℕ) → Contexts → KeptBy → Body → Type 0
+IsBodyAt shot c props children number cs kept b =
+    (s : Sight) (old : Option Instance) (kids : Elements) → IsSnapshotOf shot s → number_in old ≡ number → GivesHooks s kept old → listed kids ≡ children
+    → option_map (λ d. body_of s.program d (inputs_at s cs props kids old)) (component_at s.program c) ≡ Some b
 
 -- hooks are kept of each instance of an old tree that has a number
 abbrev pub KeepsTree : KeptBy → Option Node → Type 0

@@ -36,35 +36,25 @@ pub(crate) fn number_of(instance: &Option<Instance>) -> Option<u64>
 
 // An instance keeps its number and its initial values (react.dev, State as a Snapshot).
 pub(crate) fn instance_after(
-    alloc: Global,
     component: u32,
     old: Option<Instance>,
-    initials: Ints,
-    reads: Vec<ContextRead>,
-    versions: Vec<VersionRead>,
-    effects: Vec<EffectRecord>,
-) -> Result<Instance, AllocError>
-    ensures { IfOk result (λ i. instance_seen i ≡ instance_after component (option_map instance_seen old) initials reads.items versions.items effects.items) }
+    initials: Rc<Ints>,
+    reads: Rc<Vec<ContextRead>>,
+    versions: Rc<Vec<VersionRead>>,
+    effects: Rc<Vec<EffectRecord>>,
+) -> Instance
+    ensures { instance_seen result ≡ instance_after component (option_map instance_seen old) initials.value reads.value.items versions.value.items effects.value.items }
 {
-    let reads = Rc::new(alloc, reads)?;
-    let versions = Rc::new(alloc, versions)?;
-    let effects = Rc::new(alloc, effects)?;
-    match old {
-        Some(old) => Ok(Instance {
-            number: old.number,
-            component,
-            initials: old.initials,
-            reads,
-            versions,
-            effects,
-        }),
-        None => Ok(Instance {
-            number: None,
-            component,
-            initials: Rc::new(alloc, initials)?,
-            reads,
-            versions,
-            effects,
-        }),
+    let (number, initials) = match old {
+        Some(old) => (old.number, old.initials),
+        None => (None, initials),
+    };
+    Instance {
+        number,
+        component,
+        initials,
+        reads,
+        versions,
+        effects,
     }
 }

@@ -2,6 +2,8 @@
 #![tactic(auto)]
 
 mod body;
+mod evaluations;
+mod given;
 mod instance;
 mod lists;
 mod nodes;
@@ -10,6 +12,7 @@ mod render;
 mod roots;
 mod snapshot;
 
+pub use evaluations::Evaluations;
 pub use place::Place;
 pub use render::fresh;
 pub use snapshot::Snapshot;

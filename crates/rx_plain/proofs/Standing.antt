@@ -55,6 +55,7 @@ stands_at p s g now event passive v reached h =
       tree = h.tree;
       keeps = all_stay s (at_time s now event passive) refl refl p (kept_hooks v.hooks) (kept_hooks v.hooks) refl (λ n. refl) h.keeps;
       below = h.below;
+      evaluated = h.evaluated;
       schedule = h.schedule;
       commits = h.commits;
       seen = h.seen;
@@ -178,6 +179,7 @@ module _ (p : Program) (s : State) (sc : Schedule) (ln : List Linked) (ev : Even
         tree = h.tree;
         keeps = keeps;
         below = below;
+        evaluated = h.evaluated;
         schedule = ap (after_update sc u.update.lane) h.now;
         commits = h.commits;
         seen = h.seen;
@@ -235,6 +237,7 @@ module _ (p : Program) (s : State) (r : ℕ) (x : ℤ) (v : Plained) where
         tree = h.tree;
         keeps = all_stay s (with_value s r x) refl refl p (kept_hooks v.hooks) (kept_hooks v.hooks) refl (λ n. refl) h.keeps;
         below = h.below;
+        evaluated = h.evaluated;
         schedule =
             ap (λ (sc : Schedule). after_resolution sc r (next_version s.journal r) (is_awaited_in s r (next_version s.journal r)) v.now) h.schedule
             ∙ ap (after_resolution s.schedule r (next_version s.journal r) (is_awaited_in s r (next_version s.journal r))) h.now;

@@ -31,6 +31,7 @@ use Rattle.run_laws.proofs.Carrying.{all_accounted, done_before}
 use Rattle.end_laws.specs.Trimmed.{trimmed, trimmed_if}
 use Rattle.end_laws.specs.Places.{trimmed_place}
 use Rattle.rx_hook_store.specs.Store as hooks
+use Rattle.rx_fresh.specs.Evaluated.{AreEvaluated, Evaluation}
 use Rattle.rx_hook_store.specs.Store.{kept_hooks}
 use Rattle.rx_hook_store.specs.Gives.{GivesValues}
 use Rattle.rx_hook_store.proofs.Staying.{all_stay, there_is}
@@ -108,6 +109,7 @@ with_progress p s asks g v x h has =
       tree = h.tree;
       keeps = h.keeps;
       below = h.below;
+      evaluated = h.evaluated;
       schedule = h.schedule;
       commits = h.commits;
       seen = h.seen;
@@ -173,6 +175,7 @@ progress_stands p s g o v x h reached has =
       tree = h.tree;
       keeps = all_stay s (record s { progress = o }) refl refl p (kept_hooks v.hooks) (kept_hooks v.hooks) refl (λ n. refl) h.keeps;
       below = h.below;
+      evaluated = h.evaluated;
       schedule = h.schedule;
       commits = h.commits;
       seen = h.seen;
@@ -200,16 +203,18 @@ further_stands p s g v new units bodies h few reached is =
 
 -- ---- what is rendered
 
--- hooks that stand for the same leave all else
-pub rendered_stands : (p : Program) (s : State) (g : Progress) (v new : Plained) (store : hooks.Kept) → StandsWith p s (Some g) v → new ≡ record v { hooks = store } → KeepsAllHooks p s (kept_hooks store)
+-- hooks that stand for the same, and evaluations that are right, leave all else
+pub rendered_stands : (p : Program) (s : State) (g : Progress) (v new : Plained) (store : hooks.Kept) (evaluations : List (ℕ × Evaluation)) → StandsWith p s (Some g) v → new ≡ record v { hooks = store; evaluations = evaluations }
+    → AreEvaluated p evaluations → KeepsAllHooks p s (kept_hooks store)
     → StandsWith p s (Some g) new
-rendered_stands p s g v new store h is keeps =
+rendered_stands p s g v new store evaluations h is evaluated keeps =
     subst (λ (w : Plained). StandsWith p s (Some g) w) (sym is)
     (record {
       reached = h.reached;
       tree = h.tree;
       keeps = keeps;
       below = h.below;
+      evaluated = evaluated;
       schedule = h.schedule;
       commits = h.commits;
       seen = h.seen;

@@ -6,6 +6,7 @@ use Rattle.rx_elem.specs.Numbers.{Numbers}
 use Rattle.rx_elem.specs.Trees.{Node}
 use Rattle.rx_effect.specs.EffectLog.{Passive}
 use Rattle.rx_hook_store.specs.Store as hooks
+use Rattle.rx_fresh.specs.Evaluated.{Evaluation}
 use Rattle.rx_resources.specs.Kept.{Kept}
 use Rattle.rx_resources.specs.Seen.{Resources}
 use Rattle.rx_sched.specs.declared.event.Event.{Event}
@@ -19,10 +20,11 @@ pub record Going : Type 0 where
   pub units : ℕ
   pub later : Lanes
 
--- The committed tree, without the vacant places at the ends of its lists; the hooks; the lanes; how many commits there were, how many resolutions the last one saw, and how many updates and resolutions there were; what is kept of the resources; the clock; the event that goes on; the numbers that come next; the passive effects that are pending; and the render in progress
+-- The committed tree, without the vacant places at the ends of its lists; the hooks; what the last evaluations of bodies gave, by the numbers of the instances; the lanes; how many commits there were, how many resolutions the last one saw, and how many updates and resolutions there were; what is kept of the resources; the clock; the event that goes on; the numbers that come next; the passive effects that are pending; and the render in progress
 pub record Plained : Type 0 where
   pub tree : Option Node
   pub hooks : hooks.Kept
+  pub evaluations : List (ℕ × Evaluation)
   pub schedule : Schedule
   pub commits : ℕ
   pub seen : ℕ

@@ -14,6 +14,7 @@ use Rattle.rx_model.specs.Machine.{flush_limit}
 use Rattle.rx_model.specs.State.{Progress, State}
 use Rattle.rx_hook_store.specs.Commits.{LinksBelow}
 use Rattle.rx_hook_store.specs.Store.{kept_hooks}
+use Rattle.rx_fresh.specs.Evaluated.{AreEvaluated}
 use Rattle.end_laws.specs.Trimmed.{trimmed_if}
 use Rattle.rx_kept.specs.Keeping.{AreDeclared, KeepsResources}
 use Rattle.rx_kept.specs.Seeing.{AreSeen}
@@ -45,6 +46,7 @@ pub record StandsBy (p : Program) (s : State) (asks : Option Going → Type 0) (
   pub tree : v.tree ≡ trimmed_if s.tree
   pub keeps : KeepsAllHooks p s (kept_hooks v.hooks)
   pub below : LinksBelow s
+  pub evaluated : AreEvaluated p v.evaluations
   pub schedule : v.schedule ≡ s.schedule
   pub commits : v.commits ≡ s.commits
   pub seen : v.seen ≡ s.seen

@@ -6,6 +6,7 @@ ghost use Rattle.rx_plain.specs.Stands.{StandsFor};
 use rx_base::Cut;
 use rx_changes::Lines;
 use rx_check::Checked;
+use rx_fresh::Evaluations;
 use rx_hook_store::{HookStore, links_are_below};
 use rx_lane::Lanes;
 use rx_node::Node;
@@ -42,6 +43,8 @@ pub struct Plain {
     // Without the vacant places at the ends of its lists.
     pub(crate) tree: Option<Node>,
     pub(crate) hooks: HookStore,
+    // What the last evaluations of bodies gave.
+    pub(crate) evaluations: Evaluations,
     pub(crate) lanes: RootLanes,
     pub(crate) commits: u64,
     // How many resolutions the last commit saw.
@@ -62,12 +65,13 @@ impl Model for Plain {
     ghost use Rattle.rx_changes.specs.ChangesView.{passive_seen};
     ghost use Rattle.std.specs.Coded.{codes};
     ghost use Rattle.rx_node.specs.NodeCode.{node_code};
+    ghost use Rattle.rx_elem.specs.ElementCode.{element_code};
 
     ghost Value = { Plained };
 
-    ghost coded = { Prim.hlevel (codes, node_code) };
+    ghost coded = { Prim.hlevel (codes, node_code, element_code) };
 
-    ghost view = { λ m. record { tree = m.tree; hooks = m.hooks; schedule = m.lanes; commits = m.commits; seen = m.seen; updates = m.updates; resolutions = m.resolutions; resources = m.resources; now = m.now; event = m.event; numbers = numbers_seen m.numbers; passive = passive_seen m.passive; going = m.going } };
+    ghost view = { λ m. record { tree = m.tree; hooks = m.hooks; evaluations = m.evaluations; schedule = m.lanes; commits = m.commits; seen = m.seen; updates = m.updates; resolutions = m.resolutions; resources = m.resources; now = m.now; event = m.event; numbers = numbers_seen m.numbers; passive = passive_seen m.passive; going = m.going } };
 }
 
 // It is taken apart here alone, once for all crates.
@@ -77,6 +81,7 @@ impl Drop for Plain {
             alloc: _alloc,
             tree: _tree,
             hooks: _hooks,
+            evaluations: _evaluations,
             lanes: _lanes,
             commits: _commits,
             seen: _seen,
@@ -107,6 +112,7 @@ impl Plain {
             alloc,
             tree: None,
             hooks: HookStore::new(alloc),
+            evaluations: Evaluations::new(alloc),
             lanes: RootLanes::new(),
             commits: 0,
             seen: 0,

@@ -169,7 +169,7 @@ impl Plain {
         requires goes_on { HasSomeProgress checked.now self.old }
         ensures tree { IfOk result (λ n. (s : State) (g : Progress) → StandsWith checked.now s (Some g) self.old → (x : trees.Node) × (fresh (sight_of checked.now s g) s.tree ≡ made x) × (trimmed n ≡ trimmed x)) }
         ensures stands { OnOk result ((s : State) (g : Progress) → StandsWith checked.now s (Some g) self.old → StandsWith checked.now s (Some g) self.new) }
-        ensures rest { self.new ≡ record self.old { hooks = self.new.hooks } }
+        ensures rest { self.new ≡ record self.old { hooks = self.new.hooks; evaluations = self.new.evaluations } }
     {
         never_waits();
         ends_are_not_rendered();
@@ -185,7 +185,14 @@ impl Plain {
             cut: going.cut,
         };
         let old = self.tree.as_ref();
-        let place = fresh(self.alloc, &shot, old, &mut self.hooks, steps)?;
+        let place = fresh(
+            self.alloc,
+            &shot,
+            old,
+            &mut self.hooks,
+            &mut self.evaluations,
+            steps,
+        )?;
         Ok(node_of(place))
     }
 }

@@ -4,7 +4,7 @@ use Rattle.std.proofs.lemmas.Result.{IfOk-weaker}
 use Rattle.rx_elem.specs.Elements.{gathered}
 use Rattle.rx_elem.specs.Trees.{children_if, fallback_if, forest, none, of_catcher}
 use Rattle.rx_meaning.specs.Fresh.{all_made, old_instance, over, over_boundary, over_catcher, render_list, rendered, waits}
-use Rattle.rx_eval.specs.Given.{body_seen}
+use Rattle.rx_fresh.specs.Giving.{given_seen}
 use Rattle.rx_node.specs.MarkView.{mark_seen}
 use Rattle.rx_hook_store.specs.Store.{kept_hooks}
 use Rattle.rx_fresh.specs.PlaceView.{place_seen, places_seen}
@@ -34,13 +34,14 @@ render_list-render_place-requires g t c κs sub =
         sub,
         (
           drawn_at c.args.shot.now.checked.now c.args.elements.now c.loop-place.place c.index-elements-place.result _ c.loop-place-test.true c.index-elements-place.is c.requires.drawn,
-          keeps_at (kept_hooks c.loop-place.hooks) (forest c.args.old.now) _ _ c.node_at-past.ensures kept,
+          (keeps_at (kept_hooks c.loop-place.hooks) (forest c.args.old.now) _ _ c.node_at-past.ensures kept, c.loop-place.invariant.evaluated),
         ),
       ),
     )
 
 pub render_list-loop-place-preserved : goal.render_list-loop-place-preserved
 render_list-loop-place-preserved g t c = record {
+  evaluated = c.render_place.ensures.evaluated;
   goes = further c.args.shot.now.checked.now c.args.shot.now.lanes c.args.shot.now.cut (kept_hooks c.args.hooks.now) (kept_hooks c.loop-place.hooks) (kept_hooks c.render_place.new.hooks) c.loop-place.invariant.goes c.render_place.ensures.goes;
   so_far = λ s is gives.
       let olds = forest c.args.old.now in
@@ -86,10 +87,10 @@ render_list-returns-clause-places g t c s is gives =
     (omega (arith, c.loop-place-test.false)) (omega (arith, c.in_ok-places.ensures.each, c.loop-place-test.false)) (c.loop-place.invariant.so_far s is gives)
 
 pub render_list-loop-place-init : goal.render_list-loop-place-init
-render_list-loop-place-init g t c = record { goes = stays c.args.shot.now.checked.now c.args.shot.now.lanes c.args.shot.now.cut (kept_hooks c.args.hooks.now); so_far = λ s is gives. ap (λ ns. onto ns (render_list (rendered c.args.depth s c.args.contexts.now) c.args.elements.now (forest c.args.old.now))) c.in_ok-nodes.ensures.items }
+render_list-loop-place-init g t c = record { evaluated = c.requires.evaluated; goes = stays c.args.shot.now.checked.now c.args.shot.now.lanes c.args.shot.now.cut (kept_hooks c.args.hooks.now); so_far = λ s is gives. ap (λ ns. onto ns (render_list (rendered c.args.depth s c.args.contexts.now) c.args.elements.now (forest c.args.old.now))) c.in_ok-nodes.ensures.items }
 
 pub render_node-render_list-requires : goal.render_node-render_list-requires
-render_node-render_list-requires g t c κs sub = (omega (arith, c.decreases), (sub, (c.requires.drawn, c.requires.kept)))
+render_node-render_list-requires g t c κs sub = (omega (arith, c.decreases), (sub, (c.requires.drawn, (c.requires.kept, c.requires.evaluated))))
 
 pub render_node-returns-clause-place : goal.render_node-returns-clause-place
 render_node-returns-clause-place g t c =
@@ -99,15 +100,15 @@ pub render_component-body_at-requires-clause-kept : goal.render_component-body_a
 render_component-body_at-requires-clause-kept g t c = kept_if (kept_hooks c.args.hooks.now) (option_copied c.args.old) c.number_of-number.result (c.number_of-number.ensures ∙ ap number_in c.in_ok-was.ensures) c.requires.kept
 
 pub render_component-one-requires : goal.render_component-one-requires
-render_component-one-requires g t c = small_wait c.args.shot.now.checked.now c.program.ensures.accepted c.args.component c.args.children.now (body_seen c.in_ok-body.body) c.in-Wait.resource _ c.in_ok-body.ensures.given (ap body_seen c.in-Wait.is)
+render_component-one-requires g t c = small_wait c.args.shot.now.checked.now c.program.ensures.accepted c.args.component c.args.children.now (given_seen c.in_ok-body.body) c.in-Wait.resource _ c.in_ok-body.ensures.given (ap given_seen c.in-Wait.is)
 
 pub render_component-returns-in-Wait-clause-place : goal.render_component-returns-in-Wait-clause-place
 render_component-returns-in-Wait-clause-place g t c s is gives =
-    ap waits c.one.ensures ∙ component_waits s c.args.contexts.now c.args.component c.args.props.now (gathered c.args.children.now) (option_copied c.args.old) (rendered c.args.depth s) c.args.element.now _ (body_seen c.in_ok-body.body) (c.in_ok-body.ensures.body s (old_instance (option_copied c.args.old)) (gathered c.args.children.now) is (sym (c.number_of-number.ensures ∙ ap number_in c.in_ok-was.ensures)) (gives_hooks s (kept_hooks c.args.hooks.now) (option_copied c.args.old) gives) (listed-gathered c.args.children.now)) (ap body_seen c.in-Wait.is) c.in-Wait.resource _ refl
+    ap waits c.one.ensures ∙ component_waits s c.args.contexts.now c.args.component c.args.props.now (gathered c.args.children.now) (option_copied c.args.old) (rendered c.args.depth s) c.args.element.now _ (given_seen c.in_ok-body.body) (c.in_ok-body.ensures.body s (old_instance (option_copied c.args.old)) (gathered c.args.children.now) is (sym (c.number_of-number.ensures ∙ ap number_in c.in_ok-was.ensures)) (gives_hooks s (kept_hooks c.args.hooks.now) (option_copied c.args.old) gives) (listed-gathered c.args.children.now)) (ap given_seen c.in-Wait.is) c.in-Wait.resource _ refl
 
 pub render_component-returns-in-Throw-clause-place : goal.render_component-returns-in-Throw-clause-place
 render_component-returns-in-Throw-clause-place g t c s is gives =
-    component_throws s c.args.contexts.now c.args.component c.args.props.now (gathered c.args.children.now) (option_copied c.args.old) (rendered c.args.depth s) c.args.element.now _ (body_seen c.in_ok-body.body) (c.in_ok-body.ensures.body s (old_instance (option_copied c.args.old)) (gathered c.args.children.now) is (sym (c.number_of-number.ensures ∙ ap number_in c.in_ok-was.ensures)) (gives_hooks s (kept_hooks c.args.hooks.now) (option_copied c.args.old) gives) (listed-gathered c.args.children.now)) (ap body_seen c.in-Throw.is) c.in-Throw.value refl
+    component_throws s c.args.contexts.now c.args.component c.args.props.now (gathered c.args.children.now) (option_copied c.args.old) (rendered c.args.depth s) c.args.element.now _ (given_seen c.in_ok-body.body) (c.in_ok-body.ensures.body s (old_instance (option_copied c.args.old)) (gathered c.args.children.now) is (sym (c.number_of-number.ensures ∙ ap number_in c.in_ok-was.ensures)) (gives_hooks s (kept_hooks c.args.hooks.now) (option_copied c.args.old) gives) (listed-gathered c.args.children.now)) (ap given_seen c.in-Throw.is) c.in-Throw.value refl
 
 pub render_component-render_node-requires : goal.render_component-render_node-requires
 render_component-render_node-requires g t c κs sub = (
@@ -115,26 +116,26 @@ render_component-render_node-requires g t c κs sub = (
   (
     sub,
     (
-      subst (λ es. AreDrawn c.args.shot.now.checked.now (gathered es)) (sym c.deref.ensures.value) (drawn_body c.args.shot.now.checked.now c.program.ensures.accepted c.args.component c.args.children.now (body_seen c.in_ok-body.body) _ _ _ _ _ c.requires.drawn c.in_ok-body.ensures.given (ap body_seen c.in-Ready.is)),
-      keeps_trees c.args.shot.now.checked.now c.args.shot.now.lanes c.args.shot.now.cut (kept_hooks c.args.hooks.now) (kept_hooks c.body_at.new.hooks) c.body_at.ensures.goes (forest c.children_if-old.result.now) (keeps_children (kept_hooks c.args.hooks.now) (option_copied c.args.old) _ c.children_if-old.ensures c.requires.kept),
+      subst (λ es. AreDrawn c.args.shot.now.checked.now (gathered es)) (sym (c.deref-in-Ready.ensures.value ∙ ap (λ v. v.items) c.deref.ensures)) (drawn_body c.args.shot.now.checked.now c.program.ensures.accepted c.args.component c.args.children.now (given_seen c.in_ok-body.body) _ _ _ _ _ c.requires.drawn c.in_ok-body.ensures.given (ap given_seen c.in-Ready.is)),
+      (keeps_trees c.args.shot.now.checked.now c.args.shot.now.lanes c.args.shot.now.cut (kept_hooks c.args.hooks.now) (kept_hooks c.body_at.new.hooks) c.body_at.ensures.goes (forest c.children_if-old.result.now) (keeps_children (kept_hooks c.args.hooks.now) (option_copied c.args.old) _ c.children_if-old.ensures c.requires.kept), c.body_at.ensures.evaluated),
     ),
   ),
 )
 
-pub render_component-returns-in_ok-instance-in-Ready-clause-place : goal.render_component-returns-in_ok-instance-in-Ready-clause-place
-render_component-returns-in_ok-instance-in-Ready-clause-place g t c =
+pub render_component-returns-in-Ready-clause-place : goal.render_component-returns-in-Ready-clause-place
+render_component-returns-in-Ready-clause-place g t c =
     IfOk-weaker c.render_node.result _ _ (λ x h s is gives.
     h s is (gives_trees c.args.shot.now s (kept_hooks c.args.hooks.now) (kept_hooks c.body_at.new.hooks) is c.body_at.ensures.goes (forest c.children_if-old.result.now) (gives_children s (kept_hooks c.args.hooks.now) (option_copied c.args.old) _ c.children_if-old.ensures gives))
-    ∙ (λ i. over c.args.element.now (of_instance (c.in_ok-instance-in-Ready.ensures i)) (render_list (rendered c.args.depth s c.args.contexts.now) (c.deref.ensures.value i) (c.children_if-old.ensures i)))
-    ∙ ap (λ o. over c.args.element.now (of_instance (instance_after c.args.component o c.in-Ready.initials c.in-Ready.reads.items c.in-Ready.versions.items c.in-Ready.effects.items)) (render_list (rendered c.args.depth s c.args.contexts.now) c.in-Ready.elements.items (children_if (option_copied c.args.old)))) c.in_ok-was.ensures
-    ∙ component_ready s c.args.contexts.now c.args.component c.args.props.now (gathered c.args.children.now) (option_copied c.args.old) (rendered c.args.depth s) c.args.element.now _ (body_seen c.in_ok-body.body) (c.in_ok-body.ensures.body s (old_instance (option_copied c.args.old)) (gathered c.args.children.now) is (sym (c.number_of-number.ensures ∙ ap number_in c.in_ok-was.ensures)) (gives_hooks s (kept_hooks c.args.hooks.now) (option_copied c.args.old) gives) (listed-gathered c.args.children.now)) (ap body_seen c.in-Ready.is) _ _ _ _ _ refl)
+    ∙ (λ i. over c.args.element.now (of_instance (c.instance_after-instance.ensures i)) (render_list (rendered c.args.depth s c.args.contexts.now) ((c.deref-in-Ready.ensures.value ∙ ap (λ v. v.items) c.deref.ensures) i) (c.children_if-old.ensures i)))
+    ∙ ap (λ o. over c.args.element.now (of_instance (instance_after c.args.component o c.in-Ready.ready.initials.value c.in-Ready.ready.reads.value.items c.in-Ready.ready.versions.value.items c.in-Ready.ready.effects.value.items)) (render_list (rendered c.args.depth s c.args.contexts.now) c.in-Ready.ready.elements.value.items (children_if (option_copied c.args.old)))) c.in_ok-was.ensures
+    ∙ component_ready s c.args.contexts.now c.args.component c.args.props.now (gathered c.args.children.now) (option_copied c.args.old) (rendered c.args.depth s) c.args.element.now _ (given_seen c.in_ok-body.body) (c.in_ok-body.ensures.body s (old_instance (option_copied c.args.old)) (gathered c.args.children.now) is (sym (c.number_of-number.ensures ∙ ap number_in c.in_ok-was.ensures)) (gives_hooks s (kept_hooks c.args.hooks.now) (option_copied c.args.old) gives) (listed-gathered c.args.children.now)) (ap given_seen c.in-Ready.is) _ _ _ _ _ refl)
     c.render_node.ensures.place
 
-pub render_component-returns-in_ok-instance-in-Ready-clause-goes : goal.render_component-returns-in_ok-instance-in-Ready-clause-goes
-render_component-returns-in_ok-instance-in-Ready-clause-goes g t c = further c.args.shot.now.checked.now c.args.shot.now.lanes c.args.shot.now.cut (kept_hooks c.args.hooks.now) (kept_hooks c.body_at.new.hooks) (kept_hooks c.render_node.new.hooks) c.body_at.ensures.goes c.render_node.ensures.goes
+pub render_component-returns-in-Ready-clause-goes : goal.render_component-returns-in-Ready-clause-goes
+render_component-returns-in-Ready-clause-goes g t c = further c.args.shot.now.checked.now c.args.shot.now.lanes c.args.shot.now.cut (kept_hooks c.args.hooks.now) (kept_hooks c.body_at.new.hooks) (kept_hooks c.render_node.new.hooks) c.body_at.ensures.goes c.render_node.ensures.goes
 
 pub render_boundary-render_list-requires : goal.render_boundary-render_list-requires
-render_boundary-render_list-requires g t c κs sub = (omega (arith, c.decreases), (sub, (c.requires.drawn, keeps_children (kept_hooks c.args.hooks.now) (option_copied c.args.old) _ c.children_if-before.ensures c.requires.kept)))
+render_boundary-render_list-requires g t c κs sub = (omega (arith, c.decreases), (sub, (c.requires.drawn, (keeps_children (kept_hooks c.args.hooks.now) (option_copied c.args.old) _ c.children_if-before.ensures c.requires.kept, c.requires.evaluated))))
 
 pub render_boundary-render_list-requires-in-OneWaits : goal.render_boundary-render_list-requires-in-OneWaits
 render_boundary-render_list-requires-in-OneWaits g t c κs sub = (
@@ -143,7 +144,7 @@ render_boundary-render_list-requires-in-OneWaits g t c κs sub = (
     sub,
     (
       subst (λ es. AreDrawn c.args.shot.now.checked.now (gathered es)) (sym (c.deref.ensures.value ∙ c.in_ok-fallback-in-OneWaits.ensures)) (c.requires.falls, tt),
-      keeps_trees c.args.shot.now.checked.now c.args.shot.now.lanes c.args.shot.now.cut (kept_hooks c.args.hooks.now) (kept_hooks c.render_list.new.hooks) c.render_list.ensures.goes (forest c.fallback_if-before.result.now) (keeps_fallback (kept_hooks c.args.hooks.now) (option_copied c.args.old) _ c.fallback_if-before.ensures c.requires.kept),
+      (keeps_trees c.args.shot.now.checked.now c.args.shot.now.lanes c.args.shot.now.cut (kept_hooks c.args.hooks.now) (kept_hooks c.render_list.new.hooks) c.render_list.ensures.goes (forest c.fallback_if-before.result.now) (keeps_fallback (kept_hooks c.args.hooks.now) (option_copied c.args.old) _ c.fallback_if-before.ensures c.requires.kept), c.render_list.ensures.evaluated),
     ),
   ),
 )
@@ -179,17 +180,17 @@ pub render_boundary-returns-in_err-places-in-OneWaits-clause-goes : goal.render_
 render_boundary-returns-in_err-places-in-OneWaits-clause-goes g t c = further c.args.shot.now.checked.now c.args.shot.now.lanes c.args.shot.now.cut (kept_hooks c.args.hooks.now) (kept_hooks c.render_list.new.hooks) (kept_hooks c.render_list-in-OneWaits.new.hooks) c.render_list.ensures.goes c.render_list-in-OneWaits.ensures.goes
 
 pub render_caught-render_node-requires : goal.render_caught-render_node-requires
-render_caught-render_node-requires g t c κs sub = (omega (arith, c.decreases), (sub, (subst (λ es. AreDrawn c.args.shot.now.checked.now (gathered es)) (sym (c.deref.ensures.value ∙ c.in_ok-fallback.ensures)) (c.requires.falls, tt), c.requires.kept)))
+render_caught-render_node-requires g t c κs sub = (omega (arith, c.decreases), (sub, (subst (λ es. AreDrawn c.args.shot.now.checked.now (gathered es)) (sym (c.deref.ensures.value ∙ c.in_ok-fallback.ensures)) (c.requires.falls, tt), (c.requires.kept, c.requires.evaluated))))
 
 pub render_caught-returns-clause-place : goal.render_caught-returns-clause-place
 render_caught-returns-clause-place g t c =
     IfOk-weaker c.render_node.result _ _ (λ x h s is gives. h s is gives ∙ ap (λ es. over c.args.element.now (of_catcher (Caught c.args.value)) (render_list (rendered c.args.depth s c.args.contexts.now) es (forest c.args.old.now))) (c.deref.ensures.value ∙ c.in_ok-fallback.ensures)) c.render_node.ensures.place
 
 pub render_guarded-render_list-requires : goal.render_guarded-render_list-requires
-render_guarded-render_list-requires g t c κs sub = (omega (arith, c.decreases), (sub, (c.requires.drawn, c.requires.kept)))
+render_guarded-render_list-requires g t c κs sub = (omega (arith, c.decreases), (sub, (c.requires.drawn, (c.requires.kept, c.requires.evaluated))))
 
 pub render_guarded-render_caught-requires : goal.render_guarded-render_caught-requires
-render_guarded-render_caught-requires g t c κs sub = (omega (arith, c.decreases), (sub, (c.requires.falls, tt)))
+render_guarded-render_caught-requires g t c κs sub = (omega (arith, c.decreases), (sub, (c.requires.falls, (tt, c.render_list.ensures.evaluated))))
 
 pub render_guarded-returns-in-AllMade-clause-place : goal.render_guarded-returns-in-AllMade-clause-place
 render_guarded-returns-in-AllMade-clause-place g t c =
@@ -210,10 +211,10 @@ pub render_guarded-returns-in-OneThrows-clause-goes : goal.render_guarded-return
 render_guarded-returns-in-OneThrows-clause-goes g t c = further c.args.shot.now.checked.now c.args.shot.now.lanes c.args.shot.now.cut (kept_hooks c.args.hooks.now) (kept_hooks c.render_list.new.hooks) (kept_hooks c.render_caught.new.hooks) c.render_list.ensures.goes c.render_caught.ensures.goes
 
 pub render_catcher-render_guarded-requires : goal.render_catcher-render_guarded-requires
-render_catcher-render_guarded-requires g t c κs sub = (omega (arith, c.decreases), (sub, (c.requires.drawn, (c.requires.falls, keeps_children (kept_hooks c.args.hooks.now) (option_copied c.args.old) _ c.children_if-before.ensures c.requires.kept))))
+render_catcher-render_guarded-requires g t c κs sub = (omega (arith, c.decreases), (sub, (c.requires.drawn, (c.requires.falls, (keeps_children (kept_hooks c.args.hooks.now) (option_copied c.args.old) _ c.children_if-before.ensures c.requires.kept, c.requires.evaluated)))))
 
 pub render_catcher-render_caught-requires : goal.render_catcher-render_caught-requires
-render_catcher-render_caught-requires g t c κs sub = (omega (arith, c.decreases), (sub, (c.requires.falls, keeps_fallback (kept_hooks c.args.hooks.now) (option_copied c.args.old) _ c.fallback_if-before.ensures c.requires.kept)))
+render_catcher-render_caught-requires g t c κs sub = (omega (arith, c.decreases), (sub, (c.requires.falls, (keeps_fallback (kept_hooks c.args.hooks.now) (option_copied c.args.old) _ c.fallback_if-before.ensures c.requires.kept, c.requires.evaluated))))
 
 pub render_catcher-returns-in-None-clause-place : goal.render_catcher-returns-in-None-clause-place
 render_catcher-returns-in-None-clause-place g t c =
@@ -232,7 +233,7 @@ render_catcher-returns-in-Some-clause-place g t c =
     c.render_caught.ensures.place
 
 pub render_place-render_element-requires : goal.render_place-render_element-requires
-render_place-render_element-requires g t c κs sub = (omega (arith, c.decreases, c.if-depth-eq0.false), (sub, (c.requires.drawn, c.requires.kept)))
+render_place-render_element-requires g t c κs sub = (omega (arith, c.decreases, c.if-depth-eq0.false), (sub, (c.requires.drawn, (c.requires.kept, c.requires.evaluated))))
 
 pub render_place-returns-then-depth-eq0-clause-place : goal.render_place-returns-then-depth-eq0-clause-place
 render_place-returns-then-depth-eq0-clause-place g t c s is gives = no_level s c.args.contexts.now c.args.element.now (option_copied c.args.old) c.args.depth c.if-depth-eq0.true
@@ -257,13 +258,13 @@ render_element-returns-in-Text-clause-place g t c =
     c.text_place.ensures
 
 pub render_element-render_node-requires : goal.render_element-render_node-requires
-render_element-render_node-requires g t c κs sub = (omega (arith, c.decreases), (sub, (subst (λ es. AreDrawn c.args.shot.now.checked.now (gathered es)) (sym c.deref.ensures.value) ((subst (IsDrawn c.args.shot.now.checked.now) (sym c.kind.ensures ∙ ap element_seen c.in-Host.is) c.requires.drawn)), keeps_children (kept_hooks c.args.hooks.now) (option_copied c.args.old) _ c.children_if-before.ensures c.requires.kept)))
+render_element-render_node-requires g t c κs sub = (omega (arith, c.decreases), (sub, (subst (λ es. AreDrawn c.args.shot.now.checked.now (gathered es)) (sym c.deref.ensures.value) ((subst (IsDrawn c.args.shot.now.checked.now) (sym c.kind.ensures ∙ ap element_seen c.in-Host.is) c.requires.drawn)), (keeps_children (kept_hooks c.args.hooks.now) (option_copied c.args.old) _ c.children_if-before.ensures c.requires.kept, c.requires.evaluated))))
 
 pub render_element-render_node-requires-in-List : goal.render_element-render_node-requires-in-List
-render_element-render_node-requires-in-List g t c κs sub = (omega (arith, c.decreases), (sub, (subst (λ es. AreDrawn c.args.shot.now.checked.now (gathered es)) (sym c.deref-in-List.ensures.value) ((subst (IsDrawn c.args.shot.now.checked.now) (sym c.kind.ensures ∙ ap element_seen c.in-List.is) c.requires.drawn)), keeps_children (kept_hooks c.args.hooks.now) (option_copied c.args.old) _ c.children_if-before-in-List.ensures c.requires.kept)))
+render_element-render_node-requires-in-List g t c κs sub = (omega (arith, c.decreases), (sub, (subst (λ es. AreDrawn c.args.shot.now.checked.now (gathered es)) (sym c.deref-in-List.ensures.value) ((subst (IsDrawn c.args.shot.now.checked.now) (sym c.kind.ensures ∙ ap element_seen c.in-List.is) c.requires.drawn)), (keeps_children (kept_hooks c.args.hooks.now) (option_copied c.args.old) _ c.children_if-before-in-List.ensures c.requires.kept, c.requires.evaluated))))
 
 pub render_element-render_node-requires-in-Provider : goal.render_element-render_node-requires-in-Provider
-render_element-render_node-requires-in-Provider g t c κs sub = (omega (arith, c.decreases), (sub, (subst (λ es. AreDrawn c.args.shot.now.checked.now (gathered es)) (sym c.deref-in-Provider-2.ensures.value) ((subst (IsDrawn c.args.shot.now.checked.now) (sym c.kind.ensures ∙ ap element_seen c.in-Provider.is) c.requires.drawn).1), keeps_children (kept_hooks c.args.hooks.now) (option_copied c.args.old) _ c.children_if-before-in-Provider.ensures c.requires.kept)))
+render_element-render_node-requires-in-Provider g t c κs sub = (omega (arith, c.decreases), (sub, (subst (λ es. AreDrawn c.args.shot.now.checked.now (gathered es)) (sym c.deref-in-Provider-2.ensures.value) ((subst (IsDrawn c.args.shot.now.checked.now) (sym c.kind.ensures ∙ ap element_seen c.in-Provider.is) c.requires.drawn).1), (keeps_children (kept_hooks c.args.hooks.now) (option_copied c.args.old) _ c.children_if-before-in-Provider.ensures c.requires.kept, c.requires.evaluated))))
 
 pub render_element-returns-in-Host-clause-place : goal.render_element-returns-in-Host-clause-place
 render_element-returns-in-Host-clause-place g t c =
@@ -290,14 +291,14 @@ render_element-returns-in_ok-below-in-Provider-clause-place g t c =
     c.render_node-in-Provider.ensures.place
 
 pub render_element-render_component-requires : goal.render_element-render_component-requires
-render_element-render_component-requires g t c κs sub = (omega (arith, c.decreases), (sub, ((subst (IsDrawn c.args.shot.now.checked.now) (sym c.kind.ensures ∙ ap element_seen c.in-Comp.is) c.requires.drawn).0, (subst (λ es. AreDrawn c.args.shot.now.checked.now (gathered es)) (sym c.deref-in-Comp.ensures.value) ((subst (IsDrawn c.args.shot.now.checked.now) (sym c.kind.ensures ∙ ap element_seen c.in-Comp.is) c.requires.drawn).1), c.requires.kept))))
+render_element-render_component-requires g t c κs sub = (omega (arith, c.decreases), (sub, ((subst (IsDrawn c.args.shot.now.checked.now) (sym c.kind.ensures ∙ ap element_seen c.in-Comp.is) c.requires.drawn).0, (subst (λ es. AreDrawn c.args.shot.now.checked.now (gathered es)) (sym c.deref-in-Comp.ensures.value) ((subst (IsDrawn c.args.shot.now.checked.now) (sym c.kind.ensures ∙ ap element_seen c.in-Comp.is) c.requires.drawn).1), (c.requires.kept, c.requires.evaluated)))))
 
 pub render_element-returns-in-Comp-clause-place : goal.render_element-returns-in-Comp-clause-place
 render_element-returns-in-Comp-clause-place g t c =
     IfOk-weaker c.render_component.result _ _ (λ x h s is gives. h s is gives ∙ ap (λ es. place_of (rendered c.args.depth s) c.args.element.now (option_copied c.args.old) (shape_of_component s c.args.contexts.now c.in-Comp.component c.in-Comp.props (gathered es) (option_copied c.args.old) (component_at s.program c.in-Comp.component))) c.deref-in-Comp.ensures.value ∙ ap (λ d. place_of (rendered c.args.depth s) c.args.element.now (option_copied c.args.old) (shape_of s c.args.contexts.now d (option_copied c.args.old))) (sym (sym c.kind.ensures ∙ ap element_seen c.in-Comp.is))) c.render_component.ensures.place
 
 pub render_element-render_boundary-requires : goal.render_element-render_boundary-requires
-render_element-render_boundary-requires g t c κs sub = (omega (arith, c.decreases), (sub, (subst (λ es. AreDrawn c.args.shot.now.checked.now (gathered es)) (sym c.deref-in-Boundary.ensures.value) ((subst (IsDrawn c.args.shot.now.checked.now) (sym c.kind.ensures ∙ ap element_seen c.in-Boundary.is) c.requires.drawn).1), ((subst (IsDrawn c.args.shot.now.checked.now) (sym c.kind.ensures ∙ ap element_seen c.in-Boundary.is) c.requires.drawn).0, c.requires.kept))))
+render_element-render_boundary-requires g t c κs sub = (omega (arith, c.decreases), (sub, (subst (λ es. AreDrawn c.args.shot.now.checked.now (gathered es)) (sym c.deref-in-Boundary.ensures.value) ((subst (IsDrawn c.args.shot.now.checked.now) (sym c.kind.ensures ∙ ap element_seen c.in-Boundary.is) c.requires.drawn).1), ((subst (IsDrawn c.args.shot.now.checked.now) (sym c.kind.ensures ∙ ap element_seen c.in-Boundary.is) c.requires.drawn).0, (c.requires.kept, c.requires.evaluated)))))
 
 pub render_element-returns-in-Boundary-clause-place : goal.render_element-returns-in-Boundary-clause-place
 render_element-returns-in-Boundary-clause-place g t c =
@@ -307,7 +308,7 @@ render_element-returns-in-Boundary-clause-place g t c =
     ∙ ap (λ d. place_of (rendered c.args.depth s) c.args.element.now (option_copied c.args.old) (shape_of s c.args.contexts.now d (option_copied c.args.old))) (sym (sym c.kind.ensures ∙ ap element_seen c.in-Boundary.is))) c.render_boundary.ensures.place
 
 pub render_element-render_catcher-requires : goal.render_element-render_catcher-requires
-render_element-render_catcher-requires g t c κs sub = (omega (arith, c.decreases), (sub, (subst (λ es. AreDrawn c.args.shot.now.checked.now (gathered es)) (sym c.deref-in-Catch.ensures.value) ((subst (IsDrawn c.args.shot.now.checked.now) (sym c.kind.ensures ∙ ap element_seen c.in-Catch.is) c.requires.drawn).1), ((subst (IsDrawn c.args.shot.now.checked.now) (sym c.kind.ensures ∙ ap element_seen c.in-Catch.is) c.requires.drawn).0, c.requires.kept))))
+render_element-render_catcher-requires g t c κs sub = (omega (arith, c.decreases), (sub, (subst (λ es. AreDrawn c.args.shot.now.checked.now (gathered es)) (sym c.deref-in-Catch.ensures.value) ((subst (IsDrawn c.args.shot.now.checked.now) (sym c.kind.ensures ∙ ap element_seen c.in-Catch.is) c.requires.drawn).1), ((subst (IsDrawn c.args.shot.now.checked.now) (sym c.kind.ensures ∙ ap element_seen c.in-Catch.is) c.requires.drawn).0, (c.requires.kept, c.requires.evaluated)))))
 
 pub render_element-returns-in-Catch-clause-place : goal.render_element-returns-in-Catch-clause-place
 render_element-returns-in-Catch-clause-place g t c =

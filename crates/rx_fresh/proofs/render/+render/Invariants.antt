@@ -4,6 +4,7 @@ use Rattle.rx_elem.specs.Trees.{forest}
 use Rattle.rx_elem.specs.Compare.{old_nodes}
 use Rattle.rx_meaning.specs.Fresh.{Sight, rendered, render_all, render_list}
 use Rattle.rx_hook_store.specs.Store.{kept_hooks}
+use Rattle.rx_fresh.specs.Evaluated.{AreEvaluated}
 use Rattle.rx_fresh.specs.Seeing.{IsSnapshotOf, GivesTrees, GoesOn}
 use Rattle.rx_fresh.proofs.Listing.{onto}
 use Rattle.rx_fresh.proofs.render.+render.Given as goal
@@ -35,9 +36,10 @@ decreases-render_catcher g l = 7 * l.depth + 5
 abbrev pub decreases-render_element : goal.decreases-render_element
 decreases-render_element g l = 7 * l.depth + 6
 
--- what is kept goes on, and the children so far, with those of the places that are left, are those of the whole list
+-- the evaluations are right, what is kept goes on, and the children so far, with those of the places that are left, are those of the whole list
 abbrev pub invariant-render_list-loop-place : goal.invariant-render_list-loop-place
 invariant-render_list-loop-place g l = record {
+  evaluated : AreEvaluated l.shot.checked.now l.last;
   goes : GoesOn l.shot.checked.now l.shot.lanes l.shot.cut (kept_hooks l.initial.hooks) (kept_hooks l.hooks);
   so_far : (s : Sight) → IsSnapshotOf l.shot s → GivesTrees s (kept_hooks l.initial.hooks) (forest l.old)
       → onto l.nodes.items (render_all (rendered l.depth s l.contexts) (drop l.place (zip l.elements (old_nodes (forest l.old) l.elements))))

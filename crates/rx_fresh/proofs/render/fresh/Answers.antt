@@ -16,7 +16,7 @@ render_place-requires-clause-drawn g c =
     subst (IsDrawn c.args.shot.now.checked.now) (sym c.in_ok-root.ensures) (root_fits c.args.shot.now.checked.now c.program.ensures.accepted.rooted)
 
 pub render_place-requires-clause-kept : goal.render_place-requires-clause-kept
-render_place-requires-clause-kept g c = old_from (λ n initials. IsSome (kept_hooks c.args.hooks.now n)) (option_copied c.args.old) c.requires
+render_place-requires-clause-kept g c = old_from (λ n initials. IsSome (kept_hooks c.args.hooks.now n)) (option_copied c.args.old) c.requires.kept
 
 pub returns-clause-place : goal.returns-clause-place
 returns-clause-place g c =

@@ -14,6 +14,6 @@ as_passive ls = record { destroyed = ls.destroyed; created = ls.created }
 
 pub returns : goal.returns
 returns c =
-    opening_stands c.args.checked.now c.new-2.result c.new-3.result c.in_ok-resources.resources c.new-4.result (passive_seen c.new-5.result)
-    (c.new-2.ensures.opening c.args.checked.now) c.new-3.ensures
-    (c.in_ok-resources.ensures ∙ ap (λ (names : List Name). replicate (length names) kept_of.opening) c.resources.ensures) c.new-4.ensures (ap as_passive c.new-5.ensures) c.links_are_below.ensures.start
+    opening_stands c.args.checked.now c.new-2.result c.new-3.result c.new-4.result c.in_ok-resources.resources c.new-5.result (passive_seen c.new-6.result)
+    (c.new-2.ensures.opening c.args.checked.now) (c.new-3.ensures c.args.checked.now) c.new-4.ensures
+    (c.in_ok-resources.ensures ∙ ap (λ (names : List Name). replicate (length names) kept_of.opening) c.resources.ensures) c.new-5.ensures (ap as_passive c.new-6.ensures) c.links_are_below.ensures.start

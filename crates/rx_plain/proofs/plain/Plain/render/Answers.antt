@@ -1,5 +1,5 @@
 use Rattle.std.proofs.Common.{◌∙◌, refl, ap, sym, subst}
-use Rattle.std.specs.Prelude.{Option, Some}
+use Rattle.std.specs.Prelude.{ℕ, List, Option, Some}
 use Rattle.std.specs.Option.{option_copied}
 use Rattle.rx_base.specs.declared.cut.Cut.{Cut}
 use Rattle.rx_elem.specs.Trees.{Node}
@@ -9,6 +9,7 @@ use Rattle.rx_model.specs.Committing.{sight_of}
 use Rattle.rx_model.specs.HooksOf.{KeepsAllHooks}
 use Rattle.rx_hook_store.specs.Store as hooks
 use Rattle.rx_hook_store.specs.Store.{kept_hooks}
+use Rattle.rx_fresh.specs.Evaluated.{AreEvaluated, Evaluation}
 use Rattle.rx_plain.specs.declared.plain.Going.TheInside.{Inside}
 use Rattle.rx_plain.specs.Plained.{Going, Plained}
 use Rattle.rx_plain.specs.Stands.{GoesOnWith, HasProgress}
@@ -16,11 +17,15 @@ use Rattle.rx_plain.proofs.Runnable.{runnable_bounded}
 use Rattle.rx_plain.proofs.Turning.{fresh_ends, gives_same, hooks_give, hooks_there, rendered_stands}
 use Rattle.rx_plain.proofs.plain.Plain.render.Goals as goal
 
-pub fresh-requires : goal.fresh-requires
-fresh-requires t c k m at =
+pub fresh-requires-clause-kept : goal.fresh-requires-clause-kept
+fresh-requires-clause-kept t c k m at =
     let e = c.requires.goes_on in
     hooks_there c.args.checked.now e.state e.progress c.args.self.now e.stands (option_copied c.as_ref-old.result) (c.as_ref-old.ensures.value ∙ ap (λ (v : Plained). v.tree) c.self.view_is) c.self.inside.hooks
     (ap (λ (v : Plained). v.hooks) c.self.view_is) k m at
+
+pub fresh-requires-clause-evaluated : goal.fresh-requires-clause-evaluated
+fresh-requires-clause-evaluated t c =
+    subst (λ (es : List (ℕ × Evaluation)). AreEvaluated c.args.checked.now es) (sym (ap (λ (v : Plained). v.evaluations) c.self.view_is)) c.requires.goes_on.stands.evaluated
 
 pub node_of-requires : goal.node_of-requires
 node_of-requires t c =
@@ -68,6 +73,7 @@ returns-clause-stands t c s g h =
     let p = c.args.checked.now in
     let going = sym (ap (λ (w : Plained). w.going) c.self.view_is) ∙ c.in-Some.is in
     let on : GoesOnWith p s g c.in-Some.going = subst (λ (o : Option Going). HasProgress p s (Some g) o) going h.progress in
-    rendered_stands p s g c.args.self.now _ c.fresh.new.hooks h (λ i. record (c.self.view_is i) { hooks = c.fresh.new.hooks })
+    rendered_stands p s g c.args.self.now _ c.fresh.new.hooks c.fresh.new.evaluations h (λ i. record (c.self.view_is i) { hooks = c.fresh.new.hooks; evaluations = c.fresh.new.evaluations })
+    c.fresh.ensures.evaluated
     (c.fresh.ensures.goes.states s (subst (λ (k : Cut). DoneBefore k s.journal.updates) (sym (ap (λ (x : Inside). x.cut) c.going-inside.view_is ∙ ap (λ (x : Going). x.cut) c.going.view_is ∙ on.cut)) on.done)
     (subst (λ (k : hooks.Kept). KeepsAllHooks p s (kept_hooks k)) (sym (ap (λ (w : Plained). w.hooks) c.self.view_is)) h.keeps))

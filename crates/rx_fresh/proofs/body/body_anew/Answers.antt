@@ -1,7 +1,7 @@
 use Rattle.std.proofs.Common.{refl}
 use Rattle.std.specs.Option.{option_copied}
 use Rattle.std.proofs.lemmas.Result.{IfOk-weaker}
-use Rattle.rx_fresh.proofs.body.body_at.Goals as goal
+use Rattle.rx_fresh.proofs.body.body_anew.Goals as goal
 
 pub returns-clause-given : goal.returns-clause-given
 returns-clause-given g c =
@@ -10,7 +10,7 @@ returns-clause-given g c =
           record {
             props = c.args.props.now;
             children = c.args.children.now;
-            hooks = option_copied c.slice_of.result;
+            hooks = option_copied c.slice_of-states.result;
             contexts = c.args.contexts.now;
             versions = c.args.shot.now.versions.now;
             resources = c.args.shot.now.resources.now;
