@@ -12,7 +12,7 @@ fn lists_old_children(rt: HostRuntime) -> Result<(), AllocError> {
     let element = Element::new(alloc, ElementKind::Null)?;
     let root = tree.start(Fiber::new(2, element, Stage::Begun(Mark::Plain)))?;
     tree.swap();
-    let children = old_children(alloc, &tree, Some(root))?;
+    let children = old_children(alloc, &tree, Some(root), 1)?;
     assert_eq!(rt; children.elements.len(), 3);
     Ok(())
 }

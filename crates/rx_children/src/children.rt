@@ -61,7 +61,7 @@ fn match_fibers(
     ensures few { OnOk result (length elements.now < 2 ^ 32) }
     ensures fibers { IfOk result (λ v. v.items ≡ matched (list_from tree.now.current first_old) elements.now) }
 {
-    let known = old_children(alloc, tree, first_old)?;
+    let known = old_children(alloc, tree, first_old, elements.len())?;
     count_places(known.elements.len())?;
     count_places(elements.len())?;
     let places = places_of(alloc, &known.elements, elements)?;

@@ -131,7 +131,7 @@ fn add(
 }
 
 /// The children of the old list that begins with a current fiber. What is matched with them is matched with all places of the
-/// list: those at its end without a node are left out, and nothing is found there.
+/// list: those at its end without a node are left out, and nothing is found there. There is room for so many at once.
 ///
 /// # Errors
 ///
@@ -140,6 +140,7 @@ pub fn old_children(
     alloc: Global,
     tree: &FiberTree<Fiber>,
     first: Option<FiberId>,
+    room: usize,
 ) -> Result<OldChildren, AllocError>
     requires { IfSome first (Holds tree.now.current) }
     ensures elements { IfOk result (λ c. c.elements.items ≡ old_elements (list_from tree.now.current first)) }
@@ -147,8 +148,8 @@ pub fn old_children(
 {
     tree.facts();
     let mut children = OldChildren {
-        elements: Vec::new(alloc),
-        fibers: Vec::new(alloc),
+        elements: Vec::with_capacity(alloc, room)?,
+        fibers: Vec::with_capacity(alloc, room)?,
     };
     let mut next = first;
     'listing: while let Some(id) = next {

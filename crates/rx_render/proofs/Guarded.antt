@@ -7,7 +7,7 @@ use Rattle.rx_elem.specs.Elements.{Element}
 use Rattle.rx_elem.specs.Trees.{Node}
 use Rattle.rx_lists.specs.Shapes.{Shape}
 use Rattle.rx_links.specs.Drafts.{Draft, taken, Trees, Fits}
-use Rattle.rx_links.specs.Places.{Around, below, after}
+use Rattle.rx_links.specs.Places.{Around, after}
 use Rattle.rx_meaning.specs.Fresh.{Sight, Contexts, Part, throws, throwing, shape_of}
 use Rattle.rx_meaning.specs.Cursor.{Open, around, trying, falling, guarding, Frame, Cursor, at_place, begin, ended, open_part, past_throw, unit, unwind_throw}
 use Rattle.rx_fiber.specs.Fibers.{Fiber}

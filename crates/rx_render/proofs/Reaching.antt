@@ -1,5 +1,5 @@
 -- What holds of a render in progress holds where it comes in one unit.
-use Rattle.std.specs.Prelude.{◌≡◌, Bool, ℕ, suc, ◌+◌, ◌≤◌, false, List, [], ◌∷◌, Option, Some, ◌⊎◌, refl}
+use Rattle.std.specs.Prelude.{◌≡◌, ℕ, suc, ◌+◌, ◌≤◌, false, List, [], ◌∷◌, Option, Some, ◌⊎◌, refl}
 use Rattle.std.proofs.Common.{sym, subst, arith, inl, inr, true}
 use Rattle.rx_ast.specs.Syntax.{Program}
 use Rattle.rx_check.specs.Checks.{unknowns}

@@ -1,13 +1,11 @@
 -- What a root stands for if memory runs out within a turn.
 use Rattle.rx_sched.specs.Events.{no_event}
-use Rattle.std.proofs.Common.{◌≡◌, ◌≢◌, inl, inr, ℕ, suc, ◌+◌, ◌-◌, ◌≤◌, true, List, ◌++◌, length, take, refl, sym, ap, ◌∙◌, subst, arith, Option, Some, None}
+use Rattle.std.proofs.Common.{◌≡◌, ◌≢◌, inl, inr, ℕ, suc, ◌+◌, ◌-◌, ◌≤◌, true, List, ◌++◌, length, take, refl, sym, ap, ◌∙◌, subst, arith, Some, None}
 use Rattle.std.specs.Prelude.{◌⊎◌, OnErr, OnOk, Result, Ok, Err}
 use Rattle.rx_ast.specs.Syntax.{Program}
 use Rattle.std.proofs.Math.Seq.{take-append_seam}
 use Rattle.rx_base.specs.Values.{Text}
 use Rattle.rx_elem.specs.Numbers.{Numbers}
-use Rattle.rx_elem.specs.Trees.{Node}
-use Rattle.rx_settle.specs.Settling.{CanSettle, IsSettlingOf}
 use Rattle.rx_lane.specs.declared.lane.Lane.TheVariants as lane
 use Rattle.rx_lane.specs.Lanes.{Lanes, has}
 use Rattle.rx_step.specs.declared.step.Step.{Step}

@@ -1,4 +1,4 @@
-use Rattle.std.proofs.Common.{sym, ◌∙◌}
+use Rattle.std.proofs.Common.{◌∙◌}
 use Rattle.std.proofs.lemmas.Result.{on_ok_weaker}
 use Rattle.rx_elem.specs.Numbers.{numbered}
 use Rattle.rx_render.proofs.settle.settle_whole.Goals as goal

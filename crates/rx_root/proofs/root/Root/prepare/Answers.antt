@@ -1,15 +1,13 @@
-use Rattle.std.proofs.Common.{◌+◌, ◌<◌, ◌^◌, refl, sym, ap, ◌∙◌, subst}
+use Rattle.std.proofs.Common.{◌+◌, ◌<◌, ◌^◌, sym, ap, ◌∙◌, subst}
 use Rattle.rx_lane.specs.Lanes.{has, lanes_where}
 use Rattle.rx_ast.specs.Syntax.{Program}
 use Rattle.rx_elem.specs.Numbers.{numbered}
-use Rattle.rx_host.specs.Kept.{forest_kept}
 use Rattle.rx_model.specs.Committing.{committed_state}
 use Rattle.rx_model.specs.HooksOf.{KeepsAllHooks}
 use Rattle.rx_hook_store.specs.Store.{kept_hooks}
 use Rattle.rx_commit.specs.Shown.{Shown}
 use Rattle.rx_commit.specs.Written.{lines_of}
 use Rattle.rx_writing.specs.Written.{with_lines}
-use Rattle.rx_render.specs.Rendering.{Rendering}
 use Rattle.rx_render.specs.Settling.{IsAtHand}
 use Rattle.rx_root.specs.Rooted.{Rooted}
 use Rattle.rx_root.specs.Turning.{IsPreparedFor, counts_of}

@@ -1,4 +1,4 @@
-use Rattle.std.proofs.Common.{ℕ, ◌+◌, Option, refl, sym, ap, ◌∙◌, subst}
+use Rattle.std.proofs.Common.{ℕ, ◌+◌, sym, ap, ◌∙◌, subst}
 use Rattle.rx_lane.specs.Lanes.{Lanes, has, lanes_where}
 use Rattle.rx_ast.specs.Syntax.{Program}
 use Rattle.rx_elem.specs.Numbers.{numbered}
