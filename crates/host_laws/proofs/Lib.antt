@@ -19,4 +19,5 @@ pub mod Making
 pub mod Standing
 pub mod Leaves
 pub mod Replayable
+pub mod Siblings
 mod Example

@@ -1,2 +1,3 @@
 pub mod Related
 pub mod Commits
+pub mod Siblings

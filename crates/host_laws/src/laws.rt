@@ -1,5 +1,5 @@
 // Laws of the definitions: what they say of children, of moves, and of the operations on hosts.
-ghost use Rattle.std.specs.Prelude.{◌≡◌, ℕ, ◌<◌, ◌↔◌, true, false, List, Option, Some, slice_get, position, filter};
+ghost use Rattle.std.specs.Prelude.{◌≡◌, ℕ, Bool, ◌<◌, ◌↔◌, true, false, List, Option, Some, slice_get, position, filter};
 ghost use Rattle.std.specs.List.{list_all};
 ghost use Rattle.rx_elem.specs.Elements.{Element};
 ghost use Rattle.rx_elem.specs.Identity.{Identity, Child, identities, identified, is_same_child, old_places, moves};
@@ -11,6 +11,7 @@ ghost use Rattle.rx_forest.specs.HostOps.{host_ops, placements, removals, ops_be
 ghost use Rattle.rx_forest.specs.Forests.{HostForest, children_in, forest_of, Replays, CanBeReplayed};
 ghost use Rattle.host_laws.specs.Commits.{IsCommit, TextsAreLeaves};
 ghost use Rattle.host_laws.specs.Related.{IsPassed, AreApart, AreDistinct, ParentsFirst, GoneBelow, ParentsHold, rest_of, stands, AreRelated};
+ghost use Rattle.host_laws.specs.Siblings.{with_parents, HasPlacedParents};
 
 /// No two children of a list have one identity.
 pub fn identities_are_distinct()
@@ -56,6 +57,13 @@ pub fn placements_settle_the_children()
         → ((q : ℕ) → filter (stands placed) (f.children q) ≡ filter (stands placed) (children_in new q))
         → ((q : ℕ) → list_all (has_host new) (f.children q) ≡ true)
         → (g : HostForest) × Replays f (placements placed new) g × (g.held ≡ f.held) × (g.children ≡ children_in new) }
+{}
+
+/// The placements ask only for the hosts beside those that are placed: if each placed host's parent is among these numbers, the
+/// hosts whose parents are tell them.
+pub fn siblings_tell_the_placements()
+    ensures { (placed : List ℕ) (parents : ℕ → Bool) (new : List Host)
+        → HasPlacedParents placed parents new → placements placed (with_parents parents new) ≡ placements placed new }
 {}
 
 /// The operations between two lists of hosts make the new forest of the old one.
