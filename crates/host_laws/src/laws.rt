@@ -11,7 +11,7 @@ ghost use Rattle.rx_forest.specs.HostOps.{host_ops, placements, removals, ops_be
 ghost use Rattle.rx_forest.specs.Forests.{HostForest, children_in, forest_of, Replays, CanBeReplayed};
 ghost use Rattle.host_laws.specs.Commits.{IsCommit, TextsAreLeaves};
 ghost use Rattle.host_laws.specs.Related.{IsPassed, AreApart, AreDistinct, ParentsFirst, GoneBelow, ParentsHold, rest_of, stands, AreRelated};
-ghost use Rattle.host_laws.specs.Siblings.{with_parents, HasPlacedParents};
+ghost use Rattle.host_laws.specs.Siblings.{with_parents, TellPlaces};
 
 /// No two children of a list have one identity.
 pub fn identities_are_distinct()
@@ -59,11 +59,10 @@ pub fn placements_settle_the_children()
         → (g : HostForest) × Replays f (placements placed new) g × (g.held ≡ f.held) × (g.children ≡ children_in new) }
 {}
 
-/// The placements ask only for the hosts beside those that are placed: if each placed host's parent is among these numbers, the
-/// hosts whose parents are tell them.
+/// The placements ask only for the hosts beside those that are placed: the hosts of some parents tell where those go whose parents
+/// are among these.
 pub fn siblings_tell_the_placements()
-    ensures { (placed : List ℕ) (parents : ℕ → Bool) (new : List Host)
-        → HasPlacedParents placed parents new → placements placed (with_parents parents new) ≡ placements placed new }
+    ensures { (parents : ℕ → Bool) (new : List Host) → TellPlaces parents (with_parents parents new) new }
 {}
 
 /// The operations between two lists of hosts make the new forest of the old one.

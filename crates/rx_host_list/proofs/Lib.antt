@@ -1,1 +1,4 @@
 pub mod Listed
+pub mod Once
+pub mod Passing
+pub mod Walks

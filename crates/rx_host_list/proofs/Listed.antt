@@ -38,7 +38,7 @@ spots-append a (None ∷ ns) ms = spots-append a ns ms
 spots-append a (Some x ∷ ns) ms = ap (λ ss. spots a x ++ ss) (spots-append a ns ms) ∙ sym (append_assoc (spots a x) (spots_in a (forest ns)) (spots_in a (forest ms)))
 
 -- a list has the nodes of its first fiber, then those of the others, if from whatever place on the others have the same
-list-spots : (a : Around) (n id : ℕ) (v : Fiber) (ks rs : Shape Fiber) → ((m : ℕ) → spots_in a (forest (places_in m rs)) ≡ spots_in a (forest (places_in 0 rs)))
+pub list-spots : (a : Around) (n id : ℕ) (v : Fiber) (ks rs : Shape Fiber) → ((m : ℕ) → spots_in a (forest (places_in m rs)) ≡ spots_in a (forest (places_in 0 rs)))
     → spots_in a (forest (places_in n (fiber id v ks rs))) ≡ spots_in a (forest (first_node (fiber id v ks rs) ∷ [])) ++ spots_in a (forest (places_in 0 rs))
 list-spots a n id v ks rs same =
     let kids = forest (places_in 0 ks) in
@@ -48,7 +48,7 @@ list-spots a n id v ks rs same =
     ∙ ap (λ ss. spots_in a (forest (first_node (fiber id v ks rs) ∷ [])) ++ ss) (same (n + length own))
 
 -- from whatever place on, a list has the same nodes
-any-place : (a : Around) (s : Shape Fiber) (n : ℕ) → spots_in a (forest (places_in n s)) ≡ spots_in a (forest (places_in 0 s))
+pub any-place : (a : Around) (s : Shape Fiber) (n : ℕ) → spots_in a (forest (places_in n s)) ≡ spots_in a (forest (places_in 0 s))
 any-place a none n = refl
 any-place a (fiber id v ks rs) n = list-spots a n id v ks rs (any-place a rs) ∙ sym (list-spots a 0 id v ks rs (any-place a rs))
 
