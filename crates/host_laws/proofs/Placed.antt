@@ -107,7 +107,7 @@ not_placed_host a p e n ns fs b q c k h first second =
 
 mutual
   -- what is no host's number isn't placed
-  not_placed : (a : Above) (p : Past) (n : Node) (b : Around) → AreNumbered n → (q : ℕ) → has_host (hosts_at b n) q ≡ false → Placed a p n q ≡ false
+  pub not_placed : (a : Above) (p : Past) (n : Node) (b : Around) → AreNumbered n → (q : ℕ) → has_host (hosts_at b n) q ≡ false → Placed a p n q ≡ false
   not_placed a p (node e (of_host None) ns fs) b k q h = absurd k.0
   not_placed a p (node e (of_host (Some n)) ns fs) b k q h =
       let c = change_of a p (node e (of_host (Some n)) ns fs) in

@@ -16,3 +16,4 @@ pub mod Reused
 pub mod Fewer
 pub mod Parts
 pub mod Staying
+pub mod Placed

@@ -109,7 +109,7 @@ flipped : (m n : ℕ) → nat_eq n m ≡ false → nat_eq m n ≡ false
 flipped m n e = grind (arith, nat_tests)
 
 -- the hosts that are kept and those that are left out have different numbers
-kept_apart : {ks ls hs : List Host} → Merged ks ls hs → AreDistinct hs → (n : ℕ) → has_host ks n ≡ true → has_host ls n ≡ false
+pub kept_apart : {ks ls hs : List Host} → Merged ks ls hs → AreDistinct hs → (n : ℕ) → has_host ks n ≡ true → has_host ls n ≡ false
 kept_apart ended d n k = refl
 kept_apart (keep h {ks} {ls} {hs} m) d n k = go (kept_apart m d.1 n) (nat_eq h.number n) refl k
   where

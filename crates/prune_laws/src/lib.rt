@@ -7,4 +7,4 @@ mod operations;
 
 pub use instances::pruned_alike;
 pub use laws::pruned_trees_compare_alike;
-pub use operations::hosts_that_stay_need_nothing;
+pub use operations::{hosts_that_stay_need_nothing, placed_hosts_are_left};

@@ -1,17 +1,19 @@
 -- What is compared without the lists that stayed the same.
-use Rattle.std.specs.Prelude.{length, ◌∷◌, refl, filter_map}
-use Rattle.std.proofs.Common.{◌≡◌, ℕ, false, eqb, List, [], Option, Some, None, sym, ap, subst, ◌∙◌}
+use Rattle.std.specs.Prelude.{length, ◌∷◌, ◌++◌, refl, filter_map}
+use Rattle.std.proofs.Common.{◌≡◌, ℕ, Bool, false, eqb, List, [], Option, Some, None, sym, ap, subst, ◌∙◌}
 use Rattle.rx_elem.specs.Trees.{Node, node, Forest, none, vacant, child}
 use Rattle.rx_elem.specs.Compare.{changes, compare_trees}
 use Rattle.rx_forest.specs.declared.op.HostOp.{HostOp}
 use Rattle.rx_forest.specs.Hosts.{Host, hosts}
-use Rattle.rx_forest.specs.HostOps.{ops_between, host_ops, placed_hosts}
+use Rattle.rx_forest.specs.HostOps.{contents, creations, hidings, host_ops, ops_between, placed_hosts, placements, removals}
 use Rattle.rx_effect.specs.EffectLog.{layout_log, passive_of}
 use Rattle.rx_pruned.specs.Besides.{IsBeside}
 use Rattle.rx_pruned.specs.declared.beside.Beside.{Beside}
-use Rattle.host_laws.specs.Commits.{IsCommit, IfSound}
+use Rattle.host_laws.specs.Commits.{AreNumbered, AreNumbered_in, IsCommit, IsSound, IfSound}
+use Rattle.host_laws.specs.Siblings.{HasPlacedParents}
 use Rattle.host_laws.specs.Related.{AreDistinct, KeepKinds}
 use Rattle.prune_laws.specs.Present.{HasNoNull, AllHaveNoNull, IfHasNoNull}
+use Rattle.prune_laws.proofs.Placed.{parents_left}
 use Rattle.prune_laws.proofs.PrunedAlike.{trees_alike}
 use Rattle.prune_laws.proofs.Staying.{left_distinct, placed_need_others, staying_need_nothing}
 use Rattle.prune_laws.proofs.OutcomeAlike.{layout_alike, passive_alike, committed_alike, deferred_alike}
@@ -32,6 +34,11 @@ vacant-present : (ns : Forest) → AllHaveNoNull ns → AllHaveNoNull (vacant_be
 vacant-present none h = tt
 vacant-present (vacant ns) h = h
 vacant-present (child n ns) h = h
+
+vacant-numbered : (ns : Forest) → AreNumbered_in ns → AreNumbered_in (vacant_before ns)
+vacant-numbered none k = k
+vacant-numbered (vacant ns) k = k
+vacant-numbered (child n ns) k = k
 
 mutual
   trimmed-present : (n : Node) → HasNoNull n → HasNoNull (trimmed n)
@@ -62,25 +69,21 @@ of-commit old new h =
       kinds = subst (λ (hs : List Host). KeepKinds hs (hosts (Some (trimmed new)))) before (subst (KeepKinds (hosts old)) after h.kinds);
     }
 
--- all hosts of a tree are those of the trimmed one
-tells-trimmed : (placed : List ℕ) (all : List Host) (new : Node) → TellsWhere placed all new → TellsWhere placed all (trimmed new)
-tells-trimmed [] all new h = tt
-tells-trimmed (n ∷ ns) all new h = h ∙ sym (hosts_same (Some new))
+-- what tells where hosts of a tree go tells it of the trimmed one
+tells-trimmed : (placed : List ℕ) (told : List Host) (new : Node) → TellsWhere placed told new → TellsWhere placed told (trimmed new)
+tells-trimmed placed told new h = h ∙ ap (placements placed) (sym (hosts_same (Some new)))
 
--- if hosts are placed, these are all hosts of the new tree
-pub all-told : (placed : List ℕ) (all : List Host) (new : Node) → eqb (length placed) 0 ≡ false → TellsWhere placed all new → all ≡ hosts (Some new)
-all-told [] all new some h = absurd (cc some)
-all-told (n ∷ ns) all new some h = h
-
--- the operations between the hosts that are left, if hosts are placed among all
-pub ops-of-all : (old : Option Node) (new : Node) (b : Beside) (placed : List ℕ) (all : List Host) (ops : List HostOp) (p : Option Node) → IsBeside old new b
-    → placed ≡ placed_hosts (changes (compare_trees b.pruned_old b.pruned_new)) → p ≡ b.pruned_old → all ≡ hosts (Some new)
-    → ops ≡ ops_among (hosts p) (hosts (Some b.pruned_new)) all placed → IfHasNoNull old → AreOfCommit old new → ops ≡ host_ops old new
-ops-of-all old new b placed all ops p beside f same told g present of =
+-- the operations between the hosts that are left, if these tell where hosts are placed
+pub ops-of-all : (old : Option Node) (new : Node) (b : Beside) (placed : List ℕ) (told : List Host) (ops : List HostOp) (p : Option Node) → IsBeside old new b
+    → placed ≡ placed_hosts (changes (compare_trees b.pruned_old b.pruned_new)) → p ≡ b.pruned_old → TellsWhere placed told new
+    → ops ≡ ops_among (hosts p) (hosts (Some b.pruned_new)) told placed → IfHasNoNull old → AreOfCommit old new → ops ≡ host_ops old new
+ops-of-all old new b placed told ops p beside f same tells g present of =
+    let before : List Host = hosts b.pruned_old in
+    let after : List Host = hosts (Some b.pruned_new) in
     g
-    ∙ ap (λ (x : Option Node). ops_among (hosts x) (hosts (Some b.pruned_new)) all placed) same
-    ∙ ap (λ (hs : List Host). ops_among (hosts b.pruned_old) (hosts (Some b.pruned_new)) hs placed) told
-    ∙ ap (ops_among (hosts b.pruned_old) (hosts (Some b.pruned_new)) (hosts (Some new))) (f ∙ (trees_alike beside present).places)
+    ∙ ap (λ (x : Option Node). ops_among (hosts x) after told placed) same
+    ∙ ap (λ (xs : List HostOp). removals before after ++ creations before after ++ xs ++ contents before after ++ hidings before after) tells
+    ∙ ap (ops_among before after (hosts (Some new))) (f ∙ (trees_alike beside present).places)
     ∙ placed_need_others old new b.pruned_old b.pruned_new beside of
 
 -- a list that is empty has nothing in it
@@ -97,6 +100,35 @@ ops-of-left old new b placed ops p beside f empty same is present of =
     is (subst (λ (x : Option Node). AreDistinct (hosts x)) (sym same) (left_distinct old new b.pruned_old b.pruned_new beside of))
     ∙ ap (λ (x : Option Node). ops_between (hosts x) (hosts (Some b.pruned_new)) []) same
     ∙ staying_need_nothing old new b.pruned_old b.pruned_new beside of placed_none
+
+-- if none is placed, no hosts need to be told
+pub none-told : (placed : List ℕ) (told : List Host) (new : Node) → length placed ≡ 0 → told ≡ [] → TellsWhere placed told new
+none-told placed told new count empty = let e = none-left placed count in rw (e, empty) (sym (no-placements (hosts (Some new))))
+  where
+    no-placements : (hs : List Host) → placements [] hs ≡ []
+    no-placements [] = refl
+    no-placements (h ∷ hs) = no-placements hs
+
+-- Where the placed hosts are
+
+mutual
+  numbered-trimmed : (n : Node) → AreNumbered n → AreNumbered (trimmed n)
+  numbered-trimmed (node e m ns fs) k = (k.0, all-numbered-trimmed ns k.1, all-numbered-trimmed fs k.2)
+
+  all-numbered-trimmed : (ns : Forest) → AreNumbered_in ns → AreNumbered_in (trimmed_in ns)
+  all-numbered-trimmed none k = k
+  all-numbered-trimmed (vacant ns) k = vacant-numbered (trimmed_in ns) (all-numbered-trimmed ns k)
+  all-numbered-trimmed (child n ns) k = (numbered-trimmed n k.0, all-numbered-trimmed ns k.1)
+
+-- the parents of the placed hosts that are left are those of all placed ones
+pub parents-placed : (old : Option Node) (new : Node) (b : Beside) (placed : List ℕ) (w : ℕ → Bool) → IsBeside (trimmed_if old) (trimmed new) b → IsSound new
+    → placed ≡ placed_hosts (changes (compare_trees b.pruned_old b.pruned_new)) → HasPlacedParents placed w (hosts (Some b.pruned_new)) → HasPlacedParents placed w (hosts (Some new))
+parents-placed old new b placed w beside sound is a =
+    subst (λ (ns : List ℕ). HasPlacedParents ns w (hosts (Some new))) (sym is)
+    (subst (HasPlacedParents (placed_hosts (changes (compare_trees b.pruned_old b.pruned_new))) w) (hosts_same (Some new))
+    (parents_left (trimmed_if old) (trimmed new) b.pruned_old b.pruned_new w beside (numbered-trimmed new sound.numbered)
+    (subst AreDistinct (sym (hosts_same (Some new))) sound.distinct)
+    (subst (λ (ns : List ℕ). HasPlacedParents ns w (hosts (Some b.pruned_new))) is a)))
 
 -- A commit, by what is left of the trimmed trees
 

@@ -1,5 +1,5 @@
 -- What is shown of a committed tree, and what a commit is prepared to do to it.
-use Rattle.std.specs.Prelude.{◌≡◌, ◌≤◌, ℕ, ℤ, List, [], ◌∷◌, length, Option, Some, None}
+use Rattle.std.specs.Prelude.{◌≡◌, ◌≤◌, ℕ, ℤ, List, length, Option, Some, None}
 use Rattle.rx_elem.specs.Trees.{Node}
 use Rattle.rx_elem.specs.Compare.{compare_trees}
 use Rattle.rx_effect.specs.declared.log.LogLine.{LogLine}
@@ -7,7 +7,7 @@ use Rattle.rx_effect.specs.EffectLog.{Passive, layout_log, passive_of}
 use Rattle.rx_forest.specs.declared.op.HostOp.{HostOp}
 use Rattle.rx_forest.specs.Forests.{forest_of, CanBeReplayed}
 use Rattle.rx_forest.specs.Hosts.{Host, hosts}
-use Rattle.rx_forest.specs.HostOps.{host_ops}
+use Rattle.rx_forest.specs.HostOps.{host_ops, placements}
 use Rattle.rx_base.specs.Awaits.{Awaits}
 use Rattle.rx_host.specs.Kept.{Kept, forest_kept}
 use Rattle.rx_meaning.specs.Outcome.{Outcome, commit, defer, newly_caught}
@@ -46,7 +46,6 @@ abbrev pub outcome_as : Node → Option Awaits → Outcome
 outcome_as new None = commit new
 outcome_as new (Some awaits) = defer awaits
 
--- if hosts are placed, these are all hosts of the new tree, which tell where those go
-abbrev pub TellsWhere : (placed : List ℕ) → (all : List Host) → Node → Type 0
-TellsWhere [] all new = Unit {0}
-TellsWhere (n ∷ ns) all new = all ≡ hosts (Some new)
+-- these hosts tell where the placed ones go, as all hosts of the new tree do
+abbrev pub TellsWhere : (placed : List ℕ) → (told : List Host) → Node → Type 0
+TellsWhere placed told new = placements placed told ≡ placements placed (hosts (Some new))

@@ -2,9 +2,11 @@
 #![tactic(auto)]
 
 mod deferring;
+mod placing;
 mod prepared;
 mod shown;
 
 pub use deferring::deferral;
+pub use placing::parents_of_placed;
 pub use prepared::Prepared;
 pub use shown::Shown;

@@ -56,19 +56,19 @@ impl Model for Prepared {
     ghost view = { λ p. record { ops = p.ops.items; caught = p.caught.items; layout = p.layout.destroyed.items ++ p.layout.created.items; passive = passive_seen p.passive } };
 }
 
-// The operations from the hosts of one tree to those of another, if hosts of these numbers are placed among all of these.
+// The operations from the hosts of one tree to those of another, if hosts of these numbers are placed among those that are told.
 fn ops_from(
     alloc: Global,
     old: Option<&node::Node>,
     new: &node::Node,
-    all: &[Host],
+    told: &[Host],
     placed: &[u64],
 ) -> Result<Vec<HostOp>, AllocError>
-    ensures { IfOk result (λ ops. ops.items ≡ ops_among (hosts (option_copied old.entry)) (hosts (Some new.now)) all.now placed.now) }
+    ensures { IfOk result (λ ops. ops.items ≡ ops_among (hosts (option_copied old.entry)) (hosts (Some new.now)) told.now placed.now) }
 {
     let before = listed(alloc, old)?;
     let after = listed(alloc, Some(new))?;
-    among_all(alloc, &before, &after, all, placed)
+    among_all(alloc, &before, &after, told, placed)
 }
 
 // The operations from the hosts of one tree to those of another, if none is placed. Most often each host stands where it stood.
@@ -88,15 +88,15 @@ fn changes_from(
 }
 
 // The operations of a commit, between the trees without what stayed. A host that is placed goes before its next sibling, and that
-// one may have stayed: only where such ones go is told by all hosts of the new tree.
+// one may have stayed: only where such ones go is told by other hosts of the new tree.
 fn ops_beside(
     alloc: Global,
     beside: &Beside,
     placed: &[u64],
-    all: &[Host],
+    told: &[Host],
 ) -> Result<Vec<HostOp>, AllocError>
     requires { placed.now ≡ placed_hosts (changes (compare_trees beside.now.pruned_old beside.now.pruned_new)) }
-    ensures { IfOk result (λ ops. (old : Option Node) (new : Node) → IsBeside old new beside.now → IfHasNoNull old → AreOfCommit old new → TellsWhere placed.now all.now new → ops.items ≡ host_ops old new) }
+    ensures { IfOk result (λ ops. (old : Option Node) (new : Node) → IsBeside old new beside.now → IfHasNoNull old → AreOfCommit old new → TellsWhere placed.now told.now new → ops.items ≡ host_ops old new) }
 {
     pruned_trees_compare_alike();
     hosts_that_stay_need_nothing();
@@ -105,7 +105,7 @@ fn ops_beside(
     if placed.is_empty() {
         changes_from(alloc, before, after)
     } else {
-        ops_from(alloc, before, after, all, placed)
+        ops_from(alloc, before, after, told, placed)
     }
 }
 
@@ -115,10 +115,10 @@ impl Prepared {
         alloc: Global,
         beside: &Beside,
         changes: Changes,
-        all: &[Host],
+        told: &[Host],
     ) -> Result<Prepared, AllocError>
         requires { changes_seen changes ≡ found_in (compare_trees beside.now.pruned_old beside.now.pruned_new) }
-        ensures { IfOk result (λ x. (old : Option Node) (new : Node) → IsBeside (trimmed_if old) (trimmed new) beside.now → IfHasNoNull old → IsCommit old new → TellsWhere changes.placed.items all.now new → Prepares old new x) }
+        ensures { IfOk result (λ x. (old : Option Node) (new : Node) → IsBeside (trimmed_if old) (trimmed new) beside.now → IfHasNoNull old → IsCommit old new → TellsWhere changes.placed.items told.now new → Prepares old new x) }
     {
         pruned_trees_compare_alike();
         let Changes {
@@ -129,7 +129,7 @@ impl Prepared {
             hidden: _hidden,
         } = changes;
         Ok(Prepared {
-            ops: ops_beside(alloc, beside, &placed, all)?,
+            ops: ops_beside(alloc, beside, &placed, told)?,
             caught,
             layout,
             passive,

@@ -66,7 +66,7 @@ impl Shown {
     }
 
     /// Prepares the commit of a finished tree, by what it changes beside the committed one: it takes all the memory that the commit
-    /// needs, and shows nothing of it. If hosts are placed, `all` has those of the finished tree: they tell where these go.
+    /// needs, and shows nothing of it. `told` are hosts of the finished tree that tell where the placed ones go.
     ///
     /// # Errors
     ///
@@ -76,16 +76,16 @@ impl Shown {
         alloc: Global,
         beside: &Beside,
         changes: Changes,
-        all: &[Host],
+        told: &[Host],
     ) -> Result<Prepared, AllocError>
         requires { changes_seen changes ≡ found_in (compare_trees beside.now.pruned_old beside.now.pruned_new) }
-        ensures prepares { IfOk result (λ x. (old : Option Node) (new : Node) → IsBeside (trimmed_if old) (trimmed new) beside.now → IfHasNoNull old → IsCommit old new → TellsWhere changes.placed.items all.now new → Prepares old new x) }
+        ensures prepares { IfOk result (λ x. (old : Option Node) (new : Node) → IsBeside (trimmed_if old) (trimmed new) beside.now → IfHasNoNull old → IsCommit old new → TellsWhere changes.placed.items told.now new → Prepares old new x) }
         ensures ready { IfOk result (λ x. (old : Option Node) (passive : effects.Passive) (new : Node) → Shows old passive self.old → IsCommit old new → TextsAreLeaves new → Prepares old new x → CanCommit self.new x) }
         ensures hosts { forest_kept self.new.hosts ≡ forest_kept self.old.hosts }
         ensures passive { self.new.passive ≡ self.old.passive }
         ensures same { (tree : Option Node) (passive : effects.Passive) → Shows tree passive self.old → Shows tree passive self.new }
     {
-        let prepared = Prepared::new(alloc, beside, changes, all)?;
+        let prepared = Prepared::new(alloc, beside, changes, told)?;
         self.hosts.reserve(prepared.ops.len() as u64)?;
         Ok(prepared)
     }

@@ -12,4 +12,5 @@ mod table;
 
 pub use between::{have_same_numbers, ops_among, ops_between, ops_in_place};
 pub use host::Host;
+pub use placing::placed_parents;
 pub use reading::{add_host, concealed_below, hosts, parent_below};

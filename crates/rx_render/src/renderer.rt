@@ -58,7 +58,7 @@ use rx_check::Checked;
 use rx_ctx::ContextStack;
 use rx_fiber::{Fiber, Origin, Stage};
 use rx_hook_store::HookStore;
-use rx_host_list::hosts_in_progress;
+use rx_host_list::hosts_beside;
 use rx_host_ops::Host;
 use rx_lane::Lanes;
 use rx_links::FiberTree;
@@ -409,15 +409,16 @@ impl Renderer {
         read_in_progress(self.alloc, &self.fibers)
     }
 
-    /// The hosts of the finished tree, in tree order. Takes time for the whole tree.
+    /// Hosts of the finished tree, in tree order, that tell where a commit places those with these parents (0 is the container).
+    /// Takes time for what was made, and for all that is below these parents down to the next hosts.
     ///
     /// # Errors
     ///
     /// Only if out of memory.
-    pub fn finished_hosts(&self) -> Result<Vec<Host>, AllocError>
-        ensures { IfOk result (λ found. (x : trees.Node) → IsTreeOf (Some x) (grafted self.now.trees.draft) → found.items ≡ hosts (Some x)) }
+    pub fn hosts_below(&self, parents: &NumberSet) -> Result<Vec<Host>, AllocError>
+        ensures { IfOk result (λ told. (x : trees.Node) → IsTreeOf (Some x) (grafted self.now.trees.draft) → IsSound x → TellPlaces (holds parents.now) told.items (hosts (Some x))) }
     {
-        hosts_in_progress(self.alloc, &self.fibers)
+        hosts_beside(self.alloc, &self.fibers, parents)
     }
 
     /// Whether a boundary of the finished tree hides its children (react.dev, Suspense), told by the fiber of its root.

@@ -1,7 +1,7 @@
 use Rattle.std.proofs.Common.{◌≡◌, [], length, sym, ◌∙◌, eqb-true}
 use Rattle.std.proofs.lemmas.Result.{IfOk-weaker}
 use Rattle.std.specs.Option.{option_copied}
-use Rattle.rx_commit.proofs.Beside.{all-told, none-left, ops-of-all, ops-of-left}
+use Rattle.rx_commit.proofs.Beside.{none-left, ops-of-all, ops-of-left}
 use Rattle.rx_commit.proofs.prepared.ops_beside.Goals as goal
 
 pub returns-then-is_empty : goal.returns-then-is_empty
@@ -19,6 +19,6 @@ returns-else-is_empty c =
     let placed = c.args.placed.now in
     IfOk-weaker c.ops_from.result _ _
     (λ ops is old new beside present of tells.
-    ops-of-all old new c.args.beside.now placed c.args.all.now ops.items (option_copied c.as_ref-before.result) beside c.requires c.as_ref-before.ensures.value
-    (all-told placed c.args.all.now new (sym c.is_empty.ensures ∙ c.if-is_empty.false) tells) is present of)
+    ops-of-all old new c.args.beside.now placed c.args.told.now ops.items (option_copied c.as_ref-before.result) beside c.requires c.as_ref-before.ensures.value
+    tells is present of)
     c.ops_from.ensures

@@ -16,8 +16,8 @@ returns c = λ old new beside present commits tells.
     let b = c.args.beside.now in
     record {
       ops_are =
-          ops-of old new b beside present c.deref.result.now c.args.all.now c.in_ok-ops_beside.field-0.items c.in_ok-ops_beside.ensures commits
-          (subst (λ placed. TellsWhere placed c.args.all.now new) (sym c.deref.ensures.value) tells);
+          ops-of old new b beside present c.deref.result.now c.args.told.now c.in_ok-ops_beside.field-0.items c.in_ok-ops_beside.ensures commits
+          (subst (λ placed. TellsWhere placed c.args.told.now new) (sym c.deref.ensures.value) tells);
       caught_is = ap (λ (x : Found). x.caught) c.requires ∙ caught-of old new b beside present;
       layout_is = ap (λ (x : Found). x.layout.destroyed ++ x.layout.created) c.requires ∙ layout-of old new b beside present;
       passive_is = ap passive_in c.requires ∙ passive-of old new b beside present;
