@@ -6,9 +6,11 @@ ghost use Rattle.rx_ast.specs.Syntax as syntax;
 ghost use Rattle.rx_check.specs.Accepted.{IsAccepted};
 ghost use Rattle.rx_elem.specs.Trees as trees;
 ghost use Rattle.rx_elem.specs.Numbers.{numbered};
-ghost use Rattle.rx_elem.specs.Compare.{compare_trees};
+ghost use Rattle.rx_elem.specs.Compare.{changes, compare_trees};
 ghost use Rattle.rx_effect.specs.EffectLog as effects;
 ghost use Rattle.rx_effect.specs.EffectLog.{passive_of};
+ghost use Rattle.rx_forest.specs.HostOps.{placed_hosts};
+ghost use Rattle.host_laws.specs.Commits.{IsSound};
 ghost use Rattle.rx_lane.specs.Lanes.{has, lanes_where};
 ghost use Rattle.rx_queue.specs.Journal.{resolved_since, version_of};
 ghost use Rattle.rx_loop.specs.Ends.{MatchDriven};
@@ -43,7 +45,7 @@ ghost use Rattle.rx_root.specs.Turning.{CanFollow, CanShow, FlushesFrom, GaveUp,
 use crate::root::Root;
 use rx_base::{Awaits, Cut, Steps};
 use rx_changes::changes_between;
-use rx_commit::{Prepared, Shown, deferral};
+use rx_commit::{Prepared, Shown, deferral, parents_of_placed};
 use rx_host_ops::Host;
 use rx_lane::{Lane, Lanes};
 use rx_loop::{Driven, drive};
@@ -258,14 +260,17 @@ impl Root {
         self.renderer.finished()
     }
 
-    // All hosts of the finished tree, if hosts are placed: they tell where these go.
-    fn hosts_around(&self, placed: &[u64]) -> Result<Vec<Host>, AllocError>
-        ensures { IfOk result (λ all. (tree : trees.Node) → IsTreeOf (Some tree) (grafted self.entry.now.rendering.trees.draft) → TellsWhere placed.now all.items tree) }
+    // Hosts of the finished tree that tell where the placed ones go: those with the same parents.
+    fn hosts_around(&self, beside: &Beside, placed: &[u64]) -> Result<Vec<Host>, AllocError>
+        requires { placed.now ≡ placed_hosts (changes (compare_trees beside.now.pruned_old beside.now.pruned_new)) }
+        ensures { IfOk result (λ told. (old : Option trees.Node) (new : trees.Node) → IsBeside (trimmed_if old) (trimmed new) beside.now → IsSound new
+            → IsTreeOf (Some new) (grafted self.entry.now.rendering.trees.draft) → TellsWhere placed.now told.items new) }
     {
         if placed.is_empty() {
             return Ok(Vec::new(self.alloc));
         }
-        self.renderer.finished_hosts()
+        let parents = parents_of_placed(self.alloc, beside, placed)?;
+        self.renderer.hosts_below(&parents)
     }
 
     // Prepares what is shown for the commit of a finished tree, by what it changes.
@@ -276,8 +281,8 @@ impl Root {
     {
         let pruned = beside.pruned_old.as_ref();
         let changes = changes_between(self.alloc, pruned, &beside.pruned_new)?;
-        let all = self.hosts_around(&changes.placed)?;
-        self.shown.prepare(self.alloc, beside, changes, &all)
+        let told = self.hosts_around(beside, &changes.placed)?;
+        self.shown.prepare(self.alloc, beside, changes, &told)
     }
 
     // Writes what a prepared commit does, and settles the hooks: an `Err` takes back what was written.

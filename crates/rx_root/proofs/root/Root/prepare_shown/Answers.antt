@@ -1,9 +1,13 @@
-use Rattle.std.specs.Prelude.{ℕ, List, Result, Ok, Err, IfOk, Some}
-use Rattle.std.proofs.Common.{sym, ◌∙◌, subst}
+use Rattle.std.specs.Prelude.{ℕ, List, Option, Result, Ok, Err, IfOk, Some}
+use Rattle.std.proofs.Common.{sym, ap, ◌∙◌, subst}
+use Rattle.rx_changes.specs.Found.{Found}
 use Rattle.rx_elem.specs.Trees.{Node}
 use Rattle.rx_forest.specs.Hosts.{Host}
 use Rattle.rx_links.specs.Drafts.{grafted}
 use Rattle.rx_fiber.specs.Reading.{IsTreeOf}
+use Rattle.rx_pruned.specs.Besides.{IsBeside}
+use Rattle.end_laws.specs.Trimmed.{trimmed, trimmed_if}
+use Rattle.host_laws.specs.Commits.{IsSound}
 use Rattle.rx_commit.specs.Shown.{Shows, TellsWhere}
 use Rattle.rx_root.specs.Rooted.{Rooted}
 use Rattle.rx_root.specs.Turning.{CanFollow}
@@ -15,14 +19,15 @@ if_ok_both (Err e) f h k = tt
 
 pub returns-clause-ready : goal.returns-clause-ready
 returns-clause-ready c =
-    let tells : (new : Node) → IsTreeOf (Some new) (grafted c.args.self.now.rendering.trees.draft) → TellsWhere c.in_ok-changes.changes.placed.items c.deref-2.result.now new =
-    λ new there.
+    let tells : (old : Option Node) (new : Node) → IsBeside (trimmed_if old) (trimmed new) c.args.beside.now → IsSound new
+    → IsTreeOf (Some new) (grafted c.args.self.now.rendering.trees.draft) → TellsWhere c.in_ok-changes.changes.placed.items c.deref-2.result.now new =
+    λ old new beside sound there.
     subst (λ (placed : List ℕ). TellsWhere placed c.deref-2.result.now new) c.deref.ensures.value
-    (subst (λ (all : List Host). TellsWhere c.deref.result.now all new) (sym c.deref-2.ensures.value) (c.in_ok-all.ensures new there)) in
+    (subst (λ (told : List Host). TellsWhere c.deref.result.now told new) (sym c.deref-2.ensures.value) (c.in_ok-told.ensures old new beside sound there)) in
     if_ok_both c.prepare.result
     (λ x prepares ready old passive new h.
     let f = subst (λ (v : Rooted). CanFollow old passive new c.args.beside.now v) (sym c.self.view_is) h in
-    let prepared = prepares old new f.beside f.present f.commits (tells new h.there) in
+    let prepared = prepares old new f.beside f.present f.commits (tells old new f.beside f.commits.new_sound h.there) in
     record {
       can_commit = ready old passive new f.shows f.commits f.leaves prepared;
       prepares = prepared;
@@ -30,6 +35,9 @@ returns-clause-ready c =
       commits = f.commits;
     })
     c.prepare.ensures.prepares c.prepare.ensures.ready
+
+pub hosts_around-requires : goal.hosts_around-requires
+hosts_around-requires c = c.deref.ensures.value ∙ ap (λ (f : Found). f.placed) c.in_ok-changes.ensures
 
 pub returns-clause-same : goal.returns-clause-same
 returns-clause-same c tree passive h = c.prepare.ensures.same tree passive (subst (λ (v : Rooted). Shows tree passive v.shown) (sym c.self.view_is) h)
