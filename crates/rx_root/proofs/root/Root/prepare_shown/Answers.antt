@@ -1,7 +1,9 @@
 use Rattle.std.specs.Prelude.{ℕ, List, Option, Result, Ok, Err, IfOk, Some}
 use Rattle.std.proofs.Common.{sym, ap, ◌∙◌, subst}
 use Rattle.rx_changes.specs.Found.{Found}
+use Rattle.rx_elem.specs.Compare.{changes, compare_trees}
 use Rattle.rx_elem.specs.Trees.{Node}
+use Rattle.rx_forest.specs.HostOps.{placed_hosts}
 use Rattle.rx_forest.specs.Hosts.{Host}
 use Rattle.rx_links.specs.Drafts.{grafted}
 use Rattle.rx_fiber.specs.Reading.{IsTreeOf}
@@ -37,7 +39,10 @@ returns-clause-ready c =
     c.prepare.ensures.prepares c.prepare.ensures.ready
 
 pub hosts_around-requires : goal.hosts_around-requires
-hosts_around-requires c = c.deref.ensures.value ∙ ap (λ (f : Found). f.placed) c.in_ok-changes.ensures
+hosts_around-requires c =
+    c.deref.ensures.value
+    ∙ ap (λ (f : Found). f.placed) c.in_ok-changes.ensures
+    ∙ ap (λ (old : Option Node). placed_hosts (changes (compare_trees old c.args.beside.now.pruned_new))) c.as_ref-pruned.ensures.value
 
 pub returns-clause-same : goal.returns-clause-same
 returns-clause-same c tree passive h = c.prepare.ensures.same tree passive (subst (λ (v : Rooted). Shows tree passive v.shown) (sym c.self.view_is) h)
