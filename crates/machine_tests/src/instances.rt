@@ -1,5 +1,5 @@
 // An instance is looked up, hooks are shown, and what a boundary waits for is read.
-ghost use Rattle.std.specs.Prelude.{◌≡◌, IfOk};
+ghost use Rattle.std.specs.Prelude.{IfOk};
 ghost use Rattle.rx_fiber.specs.Subtrees.{IsGathered};
 
 use rx_ast::{Body, Component, Declaration, Expr, Program, Slot, Statement};
