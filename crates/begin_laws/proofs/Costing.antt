@@ -1,5 +1,5 @@
 -- What the beginning of a place costs.
-use Rattle.std.specs.Prelude.{◌≡◌, ◌≤◌, ℕ, suc, Bool, true, false, not, ◌&&◌, ◌||◌, List, ℤ, ◌∷◌, Option, Some, None, IsSome, if◌then◌else◌, nat_eq, option_map, option_and_then}
+use Rattle.std.specs.Prelude.{◌≡◌, ◌≤◌, ℕ, suc, Bool, true, false, not, ◌&&◌, ◌||◌, List, ℤ, ◌∷◌, Option, Some, None, IsSome, is_some, if◌then◌else◌, nat_eq, option_map, option_and_then}
 use Rattle.std.specs.Option.{option_map_or}
 use Rattle.std.proofs.Common.{refl, sym, ap, ◌∙◌, subst, arith, inl, inr}
 use Rattle.rx_ast.specs.Syntax.{Component, Program}
@@ -11,7 +11,7 @@ use Rattle.rx_elem.specs.Elements as elements
 use Rattle.rx_elem.specs.Trees.{Mark, Node, node, element_of, mark_of, instance_in, is_hidden, Forest, of_instance, of_host, of_boundary, of_catcher, plain, old_caught, was_hidden}
 use Rattle.rx_hooks.specs.declared.hook.Hook.{Hook}
 use Rattle.rx_elem.proofs.Deciding.{and_passes, both_hold, or_right, same_number}
-use Rattle.rx_meaning.specs.Touched.{is_memo}
+use Rattle.rx_meaning.specs.Touched.{component_in}
 use Rattle.rx_elem.proofs.Equality.{same_element-self}
 use Rattle.rx_lists.specs.Shapes.{Shape}
 use Rattle.rx_lists.specs.Shapes as shapes
@@ -143,12 +143,24 @@ again_is c o v u e old b was element told tells = same_test b (is_again u e old)
         let a = and_passes (nat_eq u.generation 0) (is_element_of e old) so in
         tells.1 (record { generation = λ plain. told ∙ same_number u.generation 0 a.0; same = subst (IsElementOf c o) (sym element) (equal_element c o old e was a.1) })
 
--- and whether it is as before, if that tells of a component that is declared by `memo` too
-pub before_is : (p : Program) (c : Shape Fiber) (o : Option ℕ) (v : Fiber) (u : Flag) (e : Element) (old : Option Node) (b : Bool) → IsOld c o old → v.element ≡ e → generation_of v.stage ≡ u.generation
-    → TellsAgain (is_memo p e) c o v b → b ≡ (is_again u e old || (is_memo p e && is_element_of e old))
-before_is p c o v u e old b was element told tells = go (is_memo p e) tells
+-- an element has the parts of a component's exactly if it is one
+component_parts : (e : Element) → is_some (parts_in e) ≡ is_some (component_in e)
+component_parts elements.null = refl
+component_parts (elements.text a) = refl
+component_parts (elements.host a b c d) = refl
+component_parts (elements.comp a b c d) = refl
+component_parts (elements.list a b) = refl
+component_parts (elements.boundary a b c) = refl
+component_parts (elements.catcher a b c) = refl
+component_parts (elements.provider a b c d) = refl
+
+-- and whether it is as before, if that tells of a component's too
+pub before_is : (c : Shape Fiber) (o : Option ℕ) (v : Fiber) (u : Flag) (e : Element) (old : Option Node) (b : Bool) → IsOld c o old → v.element ≡ e → generation_of v.stage ≡ u.generation
+    → TellsAgain (is_some (parts_in v.element)) c o v b → b ≡ is_as_before u e old
+before_is c o v u e old b was element told tells =
+    go (is_some (component_in e)) (subst (λ m. TellsAgain m c o v b) (ap (λ x. is_some (parts_in x)) element ∙ component_parts e) tells)
   where
-    go : (memo : Bool) → TellsAgain memo c o v b → b ≡ (is_again u e old || (memo && is_element_of e old))
+    go : (component : Bool) → TellsAgain component c o v b → b ≡ (is_again u e old || (component && is_element_of e old))
     go false tells_b = again_is c o v u e old b was element told tells_b ∙ sym (or_nothing (is_again u e old))
     go true tells_b = same_test b (is_again u e old || is_element_of e old) there back
       where
@@ -335,10 +347,9 @@ module _ (s : Sight) (scene : Scene) (kept : ℕ → Option (List Hook)) (t : Tr
   element_here : (x : Element) → e ≡ x → v.element ≡ x
   element_here x form = is.element ∙ form
 
-  again_here : (us : Flags) → FlagsAtPlace t id us → (x : Element) → e ≡ x → (b : Bool) → TellsAgain (is_memo scene.checked.now v.element) t.current (old_of t.draft id) v b → b ≡ is_as_before s (flag us) x old
+  again_here : (us : Flags) → FlagsAtPlace t id us → (x : Element) → e ≡ x → (b : Bool) → TellsAgain (is_some (parts_in v.element)) t.current (old_of t.draft id) v b → b ≡ is_as_before (flag us) x old
   again_here us h x form b tells_b =
-      before_is s.program t.current (old_of t.draft id) v (flag us) x old b was_at (element_here x form) (told_here us h).0
-      (subst (λ m. TellsAgain m t.current (old_of t.draft id) v b) (λ i. is_memo (sym sees.program i) (element_here x form i)) tells_b)
+      before_is t.current (old_of t.draft id) v (flag us) x old b was_at (element_here x form) (told_here us h).0 tells_b
 
   module _ (evaluated : Bool) (body : TellsBody scene kept t cs id evaluated) where
     none_where : (x : Element) → e ≡ x → parts_in x ≡ None → evaluated ≡ false
@@ -354,7 +365,7 @@ module _ (s : Sight) (scene : Scene) (kept : ℕ → Option (List Hook)) (t : Tr
     evaluated_is : (us : Flags) → FlagsAtPlace t id us → (c : ℕ) (key : Key) (ps : List ℤ) (kids : Elements) → e ≡ elements.comp c key ps kids → evaluated ≡ is_evaluated s (flag us) cs (elements.comp c key ps kids) old
     evaluated_is us h c key ps kids form =
         let (again, tells_again, calm, anew) = body.some v value_is (subst (λ x. IsSome (parts_in x)) (sym (element_here (elements.comp c key ps kids) form)) refl) in
-        let same : again ≡ is_as_before s (flag us) (elements.comp c key ps kids) old = again_here us h (elements.comp c key ps kids) form again tells_again in
+        let same : again ≡ is_as_before (flag us) (elements.comp c key ps kids) old = again_here us h (elements.comp c key ps kids) form again tells_again in
         called_or evaluated (is_called s cs (old_instance old)) again (λ so. called_is (not evaluated) (calm so)) anew ∙ ap (λ b. is_called s cs (old_instance old) || not b) same
 
     bodies_counted : (us : Flags) → FlagsAtPlace t id us → (x : Element) → e ≡ x → (if evaluated then 1 else 0) ≤ next_counts each_body s (at_place (suc n) fs cs x old)
@@ -393,7 +404,7 @@ module _ (s : Sight) (scene : Scene) (kept : ℕ → Option (List Hook)) (t : Tr
     may_go tries (elements.provider a b c d) form = tt
     may_go tries (elements.boundary a b c) form = subst (λ x. is_untouched s (stood (flag us)) x old ≡ false) form (tried_not tries (ap parts_in form) (stood (flag us)) refl)
 
-    module _ (evaluated : Bool) (body : TellsBody scene kept t cs id evaluated) (settled : IfSettled s.program (known_by s) old) (new : Trees Fiber) (opened : OpensKids scene.checked.now t new id evaluated) where
+    module _ (evaluated : Bool) (body : TellsBody scene kept t cs id evaluated) (settled : IfSettled s.program (known_by s) old) (new : Trees Fiber) (opened : OpensKids t new id evaluated) where
       opened_value : opened.value ≡ v
       opened_value = let q : Some opened.value ≡ Some v = opened.is ∙ sym value_is in cc
 
@@ -418,8 +429,8 @@ module _ (s : Sight) (scene : Scene) (kept : ℕ → Option (List Hook)) (t : Tr
           as_was None = refl
           as_was (Some x) = refl
 
-      again_told : (x : Element) → e ≡ x → opened.again ≡ is_as_before s (flag us) x old
-      again_told x form = again_here us h x form opened.again (subst (λ w. TellsAgain (is_memo scene.checked.now w.element) t.current (old_of t.draft id) w opened.again) opened_value opened.telling)
+      again_told : (x : Element) → e ≡ x → opened.again ≡ is_as_before (flag us) x old
+      again_told x form = again_here us h x form opened.again (subst (λ w. TellsAgain (is_some (parts_in w.element)) t.current (old_of t.draft id) w opened.again) opened_value opened.telling)
 
       both_if : (a b : Bool) → (a ≡ true → b ≡ true) → (a && b) ≡ a
       both_if true b f = f refl
@@ -427,7 +438,7 @@ module _ (s : Sight) (scene : Scene) (kept : ℕ → Option (List Hook)) (t : Tr
 
       -- what is given again is kept, but by a hidden boundary
       again_kept : (x : Element) → e ≡ x → ((key : Key) (f : Element) (es : Elements) → x ≡ elements.boundary key f es → ⊥)
-          → (opened.again && keeps_children true (mark_at t.current (old_of t.draft id))) ≡ is_as_before s (flag us) x old
+          → (opened.again && keeps_children true (mark_at t.current (old_of t.draft id))) ≡ is_as_before (flag us) x old
       again_kept x form other =
           both_if opened.again (keeps_children true (mark_at t.current (old_of t.draft id)))
           (λ so.
@@ -481,7 +492,7 @@ module _ (s : Sight) (scene : Scene) (kept : ℕ → Option (List Hook)) (t : Tr
           → FlagsOpened new id (below_node s (flag us) cs x old ∷ us) (entry opened.kids.kids)
       plain_opens x form gone none other =
           open_as x form (below_node s (flag us) cs x old)
-          (kids_generation x form (is_evaluated s (flag us) cs x old) (is_as_before s (flag us) x old) (none_where evaluated body x form gone ∙ sym none) (again_kept x form other))
+          (kids_generation x form (is_evaluated s (flag us) cs x old) (is_as_before (flag us) x old) (none_where evaluated body x form gone ∙ sym none) (again_kept x form other))
           (kids_shown x form) refl
 
       unit_opens : (x : Element) → e ≡ x → HasLists (shape_of s cs x old) → FlagsOpened new id (unit_flags s us (at_place (suc n) fs cs x old)) (entry opened.kids.kids)
@@ -502,7 +513,7 @@ module _ (s : Sight) (scene : Scene) (kept : ℕ → Option (List Hook)) (t : Tr
       unit_opens (elements.comp c key ps kids) form lists =
           subst (λ (fl : Flags). FlagsOpened new id fl (entry opened.kids.kids)) (sym (lists_of_component s cs c ps kids old (component_at s.program c) us fs (elements.comp c key ps kids) lists))
           (open_as (elements.comp c key ps kids) form (below_node s (flag us) cs (elements.comp c key ps kids) old)
-          (kids_generation (elements.comp c key ps kids) form (is_evaluated s (flag us) cs (elements.comp c key ps kids) old) (is_as_before s (flag us) (elements.comp c key ps kids) old)
+          (kids_generation (elements.comp c key ps kids) form (is_evaluated s (flag us) cs (elements.comp c key ps kids) old) (is_as_before (flag us) (elements.comp c key ps kids) old)
           (evaluated_is evaluated body us h c key ps kids form) (again_kept (elements.comp c key ps kids) form (λ k2 f2 es q. cc)))
           (kids_shown (elements.comp c key ps kids) form) refl)
 
@@ -521,6 +532,6 @@ may s scene kept t st id n fs cs e old us sees fits (begins {n = place} {v = v} 
 
 pub opens_so : (s : Sight) (scene : Scene) (kept : ℕ → Option (List Hook)) (t new : Trees Fiber) (st : Stack) (id n : ℕ) (fs : List Frame) (cs : Contexts) (e : Element) (old : Option Node) (us : Flags) (evaluated : Bool)
     → IsSceneOf scene s → Fits t → StandsAt t st (Some id) (at_place (suc n) fs cs e old) → IfSettled s.program (known_by s) old → TellsIf s kept old → FlagsAtPlace t id us → TellsBody scene kept t cs id evaluated
-    → MayGo s us (at_place (suc n) fs cs e old) → HasLists (shape_of s cs e old) → (k : OpensKids scene.checked.now t new id evaluated) → FlagsOpened new id (unit_flags s us (at_place (suc n) fs cs e old)) (entry k.kids.kids)
+    → MayGo s us (at_place (suc n) fs cs e old) → HasLists (shape_of s cs e old) → (k : OpensKids t new id evaluated) → FlagsOpened new id (unit_flags s us (at_place (suc n) fs cs e old)) (entry k.kids.kids)
 opens_so s scene kept t new st id n fs cs e old us evaluated sees fits (begins {n = place} {v = v} {o = o} {rs = rs} {k = k} here is was surrounds values stack moves) settled tells h body goes lists opened =
     unit_opens s scene kept t id n place v o rs k st fs cs e old sees fits here is was moves tells us h evaluated body settled new opened e refl lists

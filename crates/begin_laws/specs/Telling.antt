@@ -1,5 +1,5 @@
 -- What the kept hooks tell of the causes at a place, and what the beginning of a place tells of the bodies that it evaluates.
-use Rattle.std.specs.Prelude.{◌≡◌, ℕ, Bool, true, false, not, ◌&&◌, List, Option, Some, None, IsSome, option_and_then}
+use Rattle.std.specs.Prelude.{◌≡◌, ℕ, Bool, true, false, not, ◌&&◌, List, Option, Some, None, IsSome, is_some, option_and_then}
 use Rattle.rx_base.specs.Awaits.{Awaits}
 use Rattle.rx_elem.specs.Elements.{stands_for_children}
 use Rattle.rx_elem.specs.Trees.{Node, children_of, instance_in, mark_of, of_boundary}
@@ -15,8 +15,7 @@ use Rattle.rx_fiber.specs.declared.stage.Origin.{Origin}
 use Rattle.rx_fiber.specs.Standing.{is_stood}
 use Rattle.rx_fiber.specs.Surround.{IsElementOf}
 use Rattle.rx_meaning.specs.Again.{AreUnresolved}
-use Rattle.rx_ast.specs.Syntax.{Program}
-use Rattle.rx_meaning.specs.Touched.{is_memo, may_throw_anew, sees_refresh}
+use Rattle.rx_meaning.specs.Touched.{may_throw_anew, sees_refresh}
 use Rattle.commit_laws.specs.Each as marks
 use Rattle.rx_ways.specs.Ways.{Covers}
 use Rattle.rx_causes.specs.Hidden.{ForEachIn, HasCauseToTry}
@@ -43,10 +42,10 @@ abbrev pub TellsIf : Sight → (kept : ℕ → Option (List Hook)) → Option No
 TellsIf s kept None = Unit {0}
 TellsIf s kept (Some x) = TellsCauses s kept x
 
--- The beginning of the place of a fiber tells whether it evaluated a body: that of no component evaluates none, and that of a component its body, unless its element is the current one, given again, or an equal one and the component is declared by `memo`, and its instance is calm.
+-- The beginning of the place of a fiber tells whether it evaluated a body: that of no component evaluates none, and that of a component its body, unless its element is equal to the current one, and its instance is calm.
 pub record TellsBody (scene : Scene) (kept : ℕ → Option (List Hook)) (t : Trees Fiber) (cs : Contexts) (id : ℕ) (evaluated : Bool) : Type 0 where
   pub none : (v : Fiber) → Some v ≡ made_value_of t.draft id → parts_in v.element ≡ None → evaluated ≡ false
-  pub some : (v : Fiber) → Some v ≡ made_value_of t.draft id → IsSome (parts_in v.element) → (again : Bool) × TellsAgain (is_memo scene.checked.now v.element) t.current (old_of t.draft id) v again
+  pub some : (v : Fiber) → Some v ≡ made_value_of t.draft id → IsSome (parts_in v.element) → (again : Bool) × TellsAgain (is_some (parts_in v.element)) t.current (old_of t.draft id) v again
       × (again ≡ true → TellsCalm scene kept cs (option_and_then instance_in (mark_at t.current (old_of t.draft id))) (not evaluated)) × (again ≡ false → evaluated ≡ true)
 
 -- A hidden boundary's children are tried only for a cause, if its element is that of the current fiber, and that is shown, and no context has another value at the place.
@@ -55,13 +54,13 @@ TellsTries scene kept t st id =
     (v : Fiber) → Some v ≡ made_value_of t.draft id → parts_in v.element ≡ None → IsElementOf t.current (old_of t.draft id) v.element → is_stood st v.stage ≡ true → IsCauseToTry scene kept t id
 
 -- A fiber is begun over these children: their old ones are visible exactly if the fiber is steady, and they are of the generation below it.
-pub record OpensKids (p : Program) (t new : Trees Fiber) (id : ℕ) (evaluated : Bool) : Type 0 where
+pub record OpensKids (t new : Trees Fiber) (id : ℕ) (evaluated : Bool) : Type 0 where
   pub value : Fiber
   pub is : Some value ≡ made_value_of t.draft id
   pub origin : Origin
   pub steadiness : TellsSteady t.current (old_of t.draft id) value origin.visible
   pub again : Bool
-  pub telling : TellsAgain (is_memo p value.element) t.current (old_of t.draft id) value again
+  pub telling : TellsAgain (is_some (parts_in value.element)) t.current (old_of t.draft id) value again
   pub generation : origin.generation ≡ generation_below evaluated (again && keeps_children true (mark_at t.current (old_of t.draft id))) (stands_for_children value.element) (generation_of value.stage)
   pub kids : HasKids origin t new id
   pub current : new.current ≡ t.current

@@ -35,7 +35,7 @@ pub fn places_cost()
         → MayGo s us (at_place (suc n) fs cs e old) }
     ensures opens { (s : Sight) (scene : Scene) (kept : ℕ → Option (List Hook)) (t new : Trees Fiber) (st : Stack) (id n : ℕ) (fs : List Frame) (cs : Contexts) (e : Element) (old : Option Node) (us : Flags) (evaluated : Bool)
         → IsSceneOf scene s → Fits t → StandsAt t st (Some id) (at_place (suc n) fs cs e old) → IfSettled s.program (known_by s) old → TellsIf s kept old → FlagsAtPlace t id us → TellsBody scene kept t cs id evaluated
-        → MayGo s us (at_place (suc n) fs cs e old) → HasLists (shape_of s cs e old) → (k : OpensKids scene.checked.now t new id evaluated)
+        → MayGo s us (at_place (suc n) fs cs e old) → HasLists (shape_of s cs e old) → (k : OpensKids t new id evaluated)
         → FlagsOpened new id (unit_flags s us (at_place (suc n) fs cs e old)) (entry k.kids.kids) }
 {}
 

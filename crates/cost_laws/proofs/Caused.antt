@@ -29,7 +29,7 @@ use Rattle.cost_laws.proofs.CommittedHooks.{committed_hooks}
 use Rattle.cost_laws.proofs.Each.{Each, all_of}
 use Rattle.cost_laws.proofs.EachComing.{all_come, any_pairs, boundary_comes, catcher_comes, stands_or_not, whole_each}
 use Rattle.cost_laws.proofs.Resting.{boundary_zeroth, node_zeroth, not_evaluated}
-use Rattle.cost_laws.proofs.MemoExact.{memos_exact, places_exact}
+use Rattle.cost_laws.proofs.DirtyExact.{places_exact}
 
 -- A place that has a cause is evaluated
 
@@ -37,7 +37,7 @@ cause_evaluates : (s : Sight) (u : Flag) (cs : Contexts) (e : Element) (old : Op
 cause_evaluates s u cs elements.null old h = absurd (cc h)
 cause_evaluates s u cs (elements.text t) old h = absurd (cc h)
 cause_evaluates s u cs (elements.host n k attrs es) old h = absurd (cc h)
-cause_evaluates s u cs (elements.comp c k ps es) old h = ap (λ b. b || not (is_as_before s u (elements.comp c k ps es) old)) h
+cause_evaluates s u cs (elements.comp c k ps es) old h = ap (λ b. b || not (is_as_before u (elements.comp c k ps es) old)) h
 cause_evaluates s u cs (elements.list marked es) old h = absurd (cc h)
 cause_evaluates s u cs (elements.boundary k f es) old h = absurd (cc h)
 cause_evaluates s u cs (elements.catcher k f es) old h = absurd (cc h)
@@ -389,4 +389,4 @@ none_other s old settled done rooted =
 -- So the places whose bodies are evaluated are those that have a cause, some below one that has or that is tried again, and none twice.
 pub are_evaluated : (s : Sight) (old : Option Node) → IfSettled s.program (known_by s) old → DoneBefore s.cut s.journal.updates → IfSome old (λ x. element_of x ≡ root_element s.program)
     → AreEvaluated s old
-are_evaluated s old settled done rooted = record { each = causes_met s old; none_else = none_other s old settled done rooted; once = places_once s old; memo = memos_exact s old rooted; exact = places_exact s old rooted }
+are_evaluated s old settled done rooted = record { each = causes_met s old; none_else = none_other s old settled done rooted; once = places_once s old; exact = places_exact s old rooted }

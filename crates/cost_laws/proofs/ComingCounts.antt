@@ -87,7 +87,7 @@ FitsShape e (guarded p f) = component_in e ≡ None
 
 -- no body is that of a boundary's own place
 none_here : (s : Sight) (u : Flag) (cs : Contexts) (e : Element) (old : Option Node) → component_in e ≡ None → own_body s u cs e old ≡ 0
-none_here s u cs e old fits = ap (λ (c : Option ℕ). cond (is_some c && (has_cause s cs e old || not (is_as_before s u e old))) 1 0) fits
+none_here s u cs e old fits = ap (λ (c : Option ℕ). cond (is_some c && (has_cause s cs e old || not (is_as_before u e old))) 1 0) fits
 
 shape_counted : (come : Comings) (evaluate : Evaluates) → IsCounted come evaluate → (below : Contexts → Renders) (s : Sight) (a : Above) (cs : Contexts) (e : Element) (old : Option Node) (shape : Shape)
     → FitsShape e shape → counts (come_shape come below s a cs e old shape) ≡ evaluate_shape evaluate below s a.flag cs e old shape

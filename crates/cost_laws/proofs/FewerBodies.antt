@@ -40,7 +40,7 @@ own_less : (s : Sight) (u : Flag) (cs : Contexts) (e : Element) (old : Option No
 own_less s u cs elements.null old = omega arith
 own_less s u cs (elements.text t) old = omega arith
 own_less s u cs (elements.host n k attrs es) old = omega arith
-own_less s u cs (elements.comp c k ps es) old = one_less (has_cause s cs (elements.comp c k ps es) old || not (is_as_before s u (elements.comp c k ps es) old))
+own_less s u cs (elements.comp c k ps es) old = one_less (has_cause s cs (elements.comp c k ps es) old || not (is_as_before u (elements.comp c k ps es) old))
 own_less s u cs (elements.list marked es) old = omega arith
 own_less s u cs (elements.boundary k f es) old = omega arith
 own_less s u cs (elements.catcher k f es) old = omega arith

@@ -78,11 +78,11 @@ module _ (s : Sight) (j : Journal) (same : SeesSame s j) (work : SeesSameWork s 
   fallback_same u e old = ap (λ b. cond b beside_kept (after_attempt u e old)) (untouched_same (stood u) e old)
 
   called_here : (u : Flag) (cs : Contexts) (e : Element) (old : Option Node) → is_evaluated s u cs e old ≡ is_evaluated seen u cs e old
-  called_here u cs e old = ap (λ b. is_some (component_in e) && (b || not (is_as_before s u e old))) (cause_same cs e old)
+  called_here u cs e old = ap (λ b. is_some (component_in e) && (b || not (is_as_before u e old))) (cause_same cs e old)
 
   node_same : (u : Flag) (cs : Contexts) (e : Element) (old : Option Node) → below_node s u cs e old ≡ below_node seen u cs e old
   node_same u cs e old =
-      λ i. record { generation = generation_below (called_here u cs e old i) (is_as_before s u e old) (stands_for_children e) u.generation; visible = visible_below u.visible e old; moved = moved_below u.moved e old }
+      λ i. record { generation = generation_below (called_here u cs e old i) (is_as_before u e old) (stands_for_children e) u.generation; visible = visible_below u.visible e old; moved = moved_below u.moved e old }
 
   own_same : (u : Flag) (cs : Contexts) (e : Element) (old : Option Node) → own_body s u cs e old ≡ own_body seen u cs e old
   own_same u cs e old = ap (λ b. cond b 1 0) (called_here u cs e old)

@@ -10,5 +10,5 @@ pub mod CommittedHooks
 pub mod EachComing
 pub mod Paired
 pub mod Caused
-pub mod MemoExact
-pub mod MemoComputed
+pub mod DirtyExact
+pub mod InputsComputed

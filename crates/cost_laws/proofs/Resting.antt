@@ -12,7 +12,7 @@ use Rattle.rx_meaning.specs.Fresh.{Sight, Contexts, Place, empty, made, waits, t
 use Rattle.rx_meaning.specs.Counts.{count_part, if_throws, if_waits, try_all, unless_waits}
 use Rattle.rx_meaning.specs.Settled.{AllReadsHold, AllSettled, IfHidden, IsOwn, IsSettled, ReadsHold, kept_shape, known_by, read_anew, reads_another, refreshed}
 use Rattle.rx_meaning.specs.Generations.{generation_below, own_generation}
-use Rattle.rx_meaning.specs.Touched.{component_in, contexts_below, is_memo}
+use Rattle.rx_meaning.specs.Touched.{component_in, contexts_below}
 use Rattle.commit_laws.specs.Each.{ForEach, ForEachIn}
 use Rattle.commit_laws.specs.Idle.{AllIdle, IsIdle, IsIdleMark}
 use Rattle.commit_laws.proofs.TakeOver.{idle_shape, settled_no_null}
@@ -51,21 +51,21 @@ given_again : (u : Flag) (e : Element) (m : Mark) (ns fs : Forest) → u.generat
 given_again u e m ns fs zeroth = rw (zeroth, same_element-self e) refl
 
 -- So it is as before, of whatever component.
-pub as_before : (s : Sight) (u : Flag) (e : Element) (m : Mark) (ns fs : Forest) → u.generation ≡ 0 → is_as_before s u e (Some (node e m ns fs)) ≡ true
-as_before s u e m ns fs zeroth = ap (λ b. b || (is_memo s.program e && is_element_of e (Some (node e m ns fs)))) (given_again u e m ns fs zeroth)
+pub as_before : (u : Flag) (e : Element) (m : Mark) (ns fs : Forest) → u.generation ≡ 0 → is_as_before u e (Some (node e m ns fs)) ≡ true
+as_before u e m ns fs zeroth = ap (λ b. b || (is_some (component_in e) && is_element_of e (Some (node e m ns fs)))) (given_again u e m ns fs zeroth)
 
 nothing_evaluated : (component cause again : Bool) → cause ≡ false → again ≡ true → (component && (cause || not again)) ≡ false
 nothing_evaluated true cause again h k = rw (h, k) refl
 nothing_evaluated false cause again h k = refl
 
 -- If its element is as before and it has no cause, the body of a place is not evaluated.
-calm_body : (s : Sight) (u : Flag) (cs : Contexts) (e : Element) (old : Option Node) → is_as_before s u e old ≡ true → has_cause s cs e old ≡ false → is_evaluated s u cs e old ≡ false
-calm_body s u cs e old same calm = nothing_evaluated (is_some (component_in e)) (has_cause s cs e old) (is_as_before s u e old) calm same
+calm_body : (s : Sight) (u : Flag) (cs : Contexts) (e : Element) (old : Option Node) → is_as_before u e old ≡ true → has_cause s cs e old ≡ false → is_evaluated s u cs e old ≡ false
+calm_body s u cs e old same calm = nothing_evaluated (is_some (component_in e)) (has_cause s cs e old) (is_as_before u e old) calm same
 
 -- If its element is of generation 0 and it has no cause, the body of an old node's place is not evaluated.
 pub not_evaluated : (s : Sight) (u : Flag) (cs : Contexts) (e : Element) (m : Mark) (ns fs : Forest) → u.generation ≡ 0 → has_cause s cs e (Some (node e m ns fs)) ≡ false
     → is_evaluated s u cs e (Some (node e m ns fs)) ≡ false
-not_evaluated s u cs e m ns fs zeroth calm = calm_body s u cs e (Some (node e m ns fs)) (as_before s u e m ns fs zeroth) calm
+not_evaluated s u cs e m ns fs zeroth calm = calm_body s u cs e (Some (node e m ns fs)) (as_before u e m ns fs zeroth) calm
 
 generation_kept : (evaluated again for_children : Bool) (g : ℕ) → evaluated ≡ false → again ≡ true → generation_below evaluated again for_children g ≡ 0
 generation_kept false true true g h k = refl
@@ -74,13 +74,13 @@ generation_kept true again for_children g h k = absurd (cc h)
 generation_kept false false for_children g h k = absurd (cc k)
 
 -- Then the elements of its children are of generation 0.
-calm_zeroth : (s : Sight) (u : Flag) (cs : Contexts) (e : Element) (old : Option Node) → is_as_before s u e old ≡ true → has_cause s cs e old ≡ false → (below_node s u cs e old).generation ≡ 0
+calm_zeroth : (s : Sight) (u : Flag) (cs : Contexts) (e : Element) (old : Option Node) → is_as_before u e old ≡ true → has_cause s cs e old ≡ false → (below_node s u cs e old).generation ≡ 0
 calm_zeroth s u cs e old same calm =
-    generation_kept (is_evaluated s u cs e old) (is_as_before s u e old) (stands_for_children e) u.generation (calm_body s u cs e old same calm) same
+    generation_kept (is_evaluated s u cs e old) (is_as_before u e old) (stands_for_children e) u.generation (calm_body s u cs e old same calm) same
 
 pub node_zeroth : (s : Sight) (u : Flag) (cs : Contexts) (e : Element) (m : Mark) (ns fs : Forest) → u.generation ≡ 0 → has_cause s cs e (Some (node e m ns fs)) ≡ false
     → (below_node s u cs e (Some (node e m ns fs))).generation ≡ 0
-node_zeroth s u cs e m ns fs zeroth calm = calm_zeroth s u cs e (Some (node e m ns fs)) (as_before s u e m ns fs zeroth) calm
+node_zeroth s u cs e m ns fs zeroth calm = calm_zeroth s u cs e (Some (node e m ns fs)) (as_before u e m ns fs zeroth) calm
 
 own_kept : (again hidden : Bool) (g : ℕ) → again ≡ true → hidden ≡ false → own_generation (again && not hidden) g ≡ 0
 own_kept true false g h k = refl
@@ -109,7 +109,7 @@ IfBoundary A (elements.catcher k f es) = Unit {0}
 IfBoundary A (elements.provider c k x es) = Unit {0}
 
 -- The children of a boundary that is as before and is shown are of generation 0.
-calm_boundary : (s : Sight) (u : Flag) (e : Element) (m : Mark) (ns fs : Forest) → is_as_before s u e (Some (node e m ns fs)) ≡ true → is_hidden m ≡ false
+calm_boundary : (s : Sight) (u : Flag) (e : Element) (m : Mark) (ns fs : Forest) → is_as_before u e (Some (node e m ns fs)) ≡ true → is_hidden m ≡ false
     → IfBoundary ((below_boundary u e (Some (node e m ns fs))).generation ≡ 0) e
 calm_boundary s u elements.null m ns fs same shown = tt
 calm_boundary s u (elements.text t) m ns fs same shown = tt
@@ -296,11 +296,11 @@ unfolding evaluated rendered
 no_level_rests s u cs e old = (refl, tt)
 
 -- of whatever old node
-pub node_before : (s : Sight) (u : Flag) (x : Node) → u.generation ≡ 0 → is_as_before s u (element_of x) (Some x) ≡ true
-node_before s u (node e m ns fs) zeroth = as_before s u e m ns fs zeroth
+pub node_before : (u : Flag) (x : Node) → u.generation ≡ 0 → is_as_before u (element_of x) (Some x) ≡ true
+node_before u (node e m ns fs) zeroth = as_before u e m ns fs zeroth
 
 mutual
-  tree_rests : (n : ℕ) (s : Sight) (u : Flag) (cs : Contexts) (x : Node) → is_as_before s u (element_of x) (Some x) ≡ true → IsSettled s.program (known_by s) x → IsIdle s x → ForEach (IsUndue s) x → ReadsHold (version_seen s) cs x
+  tree_rests : (n : ℕ) (s : Sight) (u : Flag) (cs : Contexts) (x : Node) → is_as_before u (element_of x) (Some x) ≡ true → IsSettled s.program (known_by s) x → IsIdle s x → ForEach (IsUndue s) x → ReadsHold (version_seen s) cs x
       → Rests n s u cs (element_of x) (Some x)
   tree_rests zero s u cs (node e m ns fs) same settled idle undue reads = no_level_rests s u cs e (Some (node e m ns fs))
   tree_rests (suc n) s u cs (node e m ns fs) same settled idle undue reads =
@@ -319,9 +319,9 @@ mutual
       first_rests n s u cs elements.null None (zip (elements_in ns) (places ns)) (gap_rests n s u cs) (trees_rest n s u cs ns zeroth settled idle undue reads)
   trees_rest n s u cs (child x ns) zeroth settled idle undue reads =
       first_rests n s u cs (element_of x) (Some x) (zip (elements_in ns) (places ns))
-      (tree_rests n s u cs x (node_before s u x zeroth) settled.0 idle.0 undue.0 reads.0) (trees_rest n s u cs ns zeroth settled.1 idle.1 undue.1 reads.1)
+      (tree_rests n s u cs x (node_before u x zeroth) settled.0 idle.0 undue.0 reads.0) (trees_rest n s u cs ns zeroth settled.1 idle.1 undue.1 reads.1)
 
 -- Nothing is evaluated of a tree whose element is as before, that is idle, whose instances have each included update done, and in which reads hold.
-pub nothing_rests : (s : Sight) (u : Flag) (cs : Contexts) (x : Node) (n : ℕ) → is_as_before s u (element_of x) (Some x) ≡ true → IsSettled s.program (known_by s) x
+pub nothing_rests : (s : Sight) (u : Flag) (cs : Contexts) (x : Node) (n : ℕ) → is_as_before u (element_of x) (Some x) ≡ true → IsSettled s.program (known_by s) x
     → IsIdle s x → ForEach (IsUndue s) x → ReadsHold (version_seen s) cs x → evaluated n s u cs (element_of x) (Some x) ≡ 0
 nothing_rests s u cs x n same settled idle undue reads = (tree_rests n s u cs x same settled idle undue reads).0

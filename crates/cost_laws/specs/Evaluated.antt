@@ -1,4 +1,4 @@
--- Which bodies a render evaluates: those of components that have a cause, and of those whose element was made anew. If a component is declared by `memo`, an equal element is none that was made anew.
+-- Which bodies a render evaluates: those of components that have a cause, and of those whose element is another one than the committed one, by value. A body is a function of what it is given and what it reads, so any other would give again what it gave.
 use Rattle.std.specs.Prelude.{ℕ, zero, suc, ◌+◌, Bool, true, false, not, ◌&&◌, ◌||◌, cond, List, [], nat_eq, is_some, Option}
 use Rattle.rx_ctx.specs.Contexts.{none_moved}
 use Rattle.rx_elem.specs.Elements.{Element, stands_for_children}
@@ -6,7 +6,7 @@ use Rattle.rx_elem.specs.Trees.{Node, was_hidden}
 use Rattle.rx_meaning.specs.Counts.{Tries, count_part, if_throws, if_waits}
 use Rattle.rx_meaning.specs.Fresh.{Sight, Contexts, Renders, rendered, depth_limit, default_contexts, root_element, render_part, Shape, absent, waiting, throwing, one_list, two_lists, guarded, shape_of}
 use Rattle.rx_meaning.specs.Generations.{generation_below, own_generation}
-use Rattle.rx_meaning.specs.Touched.{component_in, is_memo}
+use Rattle.rx_meaning.specs.Touched.{component_in}
 use Rattle.cost_laws.specs.Causes.{has_cause}
 use Rattle.cost_laws.specs.Untouched.{is_element_of, is_untouched, moved_below, visible_below}
 
@@ -30,19 +30,19 @@ stood u = u.visible && none_moved u.moved
 abbrev pub is_again : Flag → Element → Option Node → Bool
 is_again u e old = nat_eq u.generation 0 && is_element_of e old
 
--- the element of a place is as before: it is the committed one, given again, or an equal one of a component that is declared by `memo`
-abbrev pub is_as_before : Sight → Flag → Element → Option Node → Bool
-is_as_before s u e old = is_again u e old || (is_memo s.program e && is_element_of e old)
+-- the element of a place is as before: it is the committed one, given again, or an equal one of a component
+abbrev pub is_as_before : Flag → Element → Option Node → Bool
+is_as_before u e old = is_again u e old || (is_some (component_in e) && is_element_of e old)
 
 -- the place is a component's, and its body is evaluated: the component has a cause, or its element is not as before
 abbrev pub is_evaluated : Sight → Flag → Contexts → Element → Option Node → Bool
-is_evaluated s u cs e old = is_some (component_in e) && (has_cause s cs e old || not (is_as_before s u e old))
+is_evaluated s u cs e old = is_some (component_in e) && (has_cause s cs e old || not (is_as_before u e old))
 
 -- what is told of the children of a node of no boundary
 abbrev pub below_node : Sight → Flag → Contexts → Element → Option Node → Flag
 below_node s u cs e old =
     record {
-      generation = generation_below (is_evaluated s u cs e old) (is_as_before s u e old) (stands_for_children e) u.generation;
+      generation = generation_below (is_evaluated s u cs e old) (is_as_before u e old) (stands_for_children e) u.generation;
       visible = visible_below u.visible e old;
       moved = moved_below u.moved e old;
     }

@@ -1,4 +1,4 @@
--- Renders of three programs whose components are declared by `memo` (react.dev, memo).
+-- Renders of three programs whose components are given equal props and children again.
 use Rattle.std.specs.Prelude.{true, false, pos, [], ◌∷◌, codes}
 use Rattle.rx_lane.specs.Lanes.{Lanes, one}
 use Rattle.rx_lane.specs.declared.lane.Lane.TheVariants as lane
@@ -24,10 +24,10 @@ cells =
     record {
       second = false;
       declarations =
-          of_component (record { name = codes "Cell"; memo = true; braces = true; parameters = integer (codes "v") ∷ []; statements = []; body = single cell })
+          of_component (record { name = codes "Cell"; memo = false; braces = true; parameters = integer (codes "v") ∷ []; statements = []; body = single cell })
           ∷ of_component (record {
             name = codes "App";
-            memo = true;
+            memo = false;
             braces = false;
             parameters = [];
             statements = state (codes "v") (codes "setV") (number 0) ∷ state (codes "w") (codes "setW") (number 0) ∷ [];
@@ -52,14 +52,14 @@ leaves =
           of_context (record { name = codes "Theme"; negative = false; number = 1 })
           ∷ of_component (record {
             name = codes "Leaf";
-            memo = true;
+            memo = false;
             braces = false;
             parameters = [];
             statements = context (codes "t") (codes "Theme") ∷ [];
             body = single (host (codes "b") [] by_tag (slot (enclosed braces (number_of (variable (codes "t")))) no_slots));
           })
-          ∷ of_component (record { name = codes "Mid"; memo = true; braces = false; parameters = []; statements = []; body = single (comp (codes "Leaf") [] at_once no_slots) })
-          ∷ of_component (record { name = codes "App"; memo = true; braces = false; parameters = []; statements = state (codes "t") (codes "setT") (number 2) ∷ []; body = single two_leaves })
+          ∷ of_component (record { name = codes "Mid"; memo = false; braces = false; parameters = []; statements = []; body = single (comp (codes "Leaf") [] at_once no_slots) })
+          ∷ of_component (record { name = codes "App"; memo = false; braces = false; parameters = []; statements = state (codes "t") (codes "setT") (number 2) ∷ []; body = single two_leaves })
           ∷ [];
     }
 
@@ -79,13 +79,13 @@ shielded =
           of_context (record { name = codes "C"; negative = false; number = 1 })
           ∷ of_component (record {
             name = codes "User";
-            memo = true;
+            memo = false;
             braces = false;
             parameters = [];
             statements = use_resource (codes "u") (codes "r") ∷ [];
             body = single (host (codes "b") [] by_tag (slot (enclosed braces (number_of (variable (codes "u")))) no_slots));
           })
-          ∷ of_component (record { name = codes "App"; memo = true; braces = false; parameters = []; statements = state (codes "t") (codes "setT") (number 2) ∷ []; body = single two_providers })
+          ∷ of_component (record { name = codes "App"; memo = false; braces = false; parameters = []; statements = state (codes "t") (codes "setT") (number 2) ∷ []; body = single two_providers })
           ∷ [];
     }
 

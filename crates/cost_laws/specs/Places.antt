@@ -1,11 +1,10 @@
 -- The places whose bodies a render evaluates, as a set.
 use Rattle.std.specs.Prelude.{◌≡◌, ℕ, zero, suc, Bool, true, false, ◌||◌, List, [], ◌∷◌, ◌++◌, ◌⊎◌, Option, filter, map, if◌then◌else◌}
-use Rattle.std.specs.List.{All, list_all}
-use Rattle.rx_ast.specs.Syntax.{Program, components}
+use Rattle.std.specs.List.{All}
 use Rattle.rx_elem.specs.Elements.{Element}
 use Rattle.rx_elem.specs.Trees.{Node}
 use Rattle.rx_meaning.specs.Fresh.{Sight, Contexts, Renders, rendered, depth_limit, default_contexts, root_element, Part, Shape, absent, waiting, throwing, one_list, two_lists, guarded, shape_of, render_part}
-use Rattle.rx_meaning.specs.Touched.{Address, children_with_old, ends_list, is_memo, is_throw, is_wait}
+use Rattle.rx_meaning.specs.Touched.{Address, children_with_old, ends_list, is_throw, is_wait}
 use Rattle.cost_laws.specs.Causes.{has_cause, is_dirty}
 use Rattle.cost_laws.specs.Evaluated.{Flag, above_root, below_boundary, below_node, in_fallback, is_evaluated, once_caught, stood}
 use Rattle.cost_laws.specs.Untouched.{is_retried, is_untouched}
@@ -19,8 +18,6 @@ pub record Coming : Type 0 where
   pub caused : Bool
   -- it is a component's place that is dirty: it has a cause, or other props or other children than when it was evaluated last
   pub dirty : Bool
-  -- it is the place of a component that is declared by `memo`
-  pub memo : Bool
   -- it is that of a boundary that was hidden and is tried again
   pub retried : Bool
   -- it lies below a place that has a cause or is tried again
@@ -55,7 +52,6 @@ coming_here s a cs e old =
       evaluated = is_evaluated s a.flag cs e old;
       caused = has_cause s cs e old;
       dirty = is_dirty s cs e old;
-      memo = is_memo s.program e;
       retried = is_retried s (stood a.flag) e old;
       below = a.below;
     }
@@ -101,19 +97,14 @@ evaluated_places s old = map (λ v. v.address) (filter (λ v. v.evaluated) (whol
 abbrev pub dirty_places : Sight → Option Node → List Address
 dirty_places s old = map (λ v. v.address) (filter (λ v. v.dirty) (whole_comings s old))
 
--- every component of a program is declared by `memo`
-abbrev pub all_memo : Program → Bool
-all_memo p = list_all (λ c. c.memo) (components p)
-
 -- no two of these addresses are equal
 abbrev pub AllApart : List Address → Type 0
 AllApart [] = Unit {0}
 AllApart (a ∷ others) = All (λ b. a ≡ b → ⊥) others × AllApart others
 
--- The places whose bodies a render evaluates: each that has a cause is one; each of them has one, or lies below a place that has one or that is tried again; and none is there twice. Of the places of components that are declared by `memo` just the dirty ones are; if all components are, the evaluated places are the dirty ones.
+-- The places whose bodies a render evaluates: each that has a cause is one; each of them has one, or lies below a place that has one or that is tried again; and none is there twice. They are exactly the dirty ones.
 pub record AreEvaluated (s : Sight) (old : Option Node) : Type 0 where
   pub each : All (λ v. v.caused ≡ true → v.evaluated ≡ true) (whole_comings s old)
   pub none_else : All (λ v. v.evaluated ≡ true → (v.caused ≡ true) ⊎ (v.below ≡ true)) (whole_comings s old)
   pub once : AllApart (evaluated_places s old)
-  pub memo : All (λ v. v.memo ≡ true → v.evaluated ≡ v.dirty) (whole_comings s old)
-  pub exact : all_memo s.program ≡ true → evaluated_places s old ≡ dirty_places s old
+  pub exact : evaluated_places s old ≡ dirty_places s old

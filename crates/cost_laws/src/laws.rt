@@ -15,12 +15,12 @@ ghost use Rattle.commit_laws.specs.Idle.{IsIdle};
 ghost use Rattle.render_laws.specs.SameSight.{SeesSame, AllAfter};
 ghost use Rattle.cost_laws.specs.Evaluated.{Flag, beside_kept, evaluated, is_as_before, stood, whole_evaluated};
 ghost use Rattle.cost_laws.specs.Left.{Costs, Flags, flag, MayGo, next_evaluated, unit_flags};
-ghost use Rattle.cost_laws.specs.Places.{AllApart, AreEvaluated, all_memo, dirty_places, evaluated_places, whole_comings};
+ghost use Rattle.cost_laws.specs.Places.{AllApart, AreEvaluated, dirty_places, evaluated_places, whole_comings};
 ghost use Rattle.cost_laws.specs.SameWork.{SeesSameWork};
 ghost use Rattle.cost_laws.specs.Undue.{IsUndue};
 ghost use Rattle.cost_laws.specs.Untouched.{is_untouched};
 
-/// A render evaluates exactly the bodies of components that have a cause, and of those whose element was made anew, what
+/// A render evaluates exactly the bodies of components that have a cause, and of those whose element is another one, what
 /// untouched hidden boundaries keep apart. That holds at its start, and is kept by a unit that evaluates what it has to and tries
 /// no untouched boundary, by a subtree that is taken over if nothing of it is evaluated, by an attempt of an untouched
 /// boundary that is left out, and by a longer journal.
@@ -48,14 +48,12 @@ pub fn bodies_are_counted()
     ensures places { (s : Sight) (old : Option Node) → length (evaluated_places s old) ≡ whole_evaluated s old }
     ensures each { (s : Sight) (old : Option Node) → All (λ v. v.caused ≡ true → v.evaluated ≡ true) (whole_comings s old) }
     ensures once { (s : Sight) (old : Option Node) → AllApart (evaluated_places s old) }
-    // Of the places of components that are declared by `memo`, exactly the dirty ones are evaluated; if all components are,
-    // the evaluated places are the dirty ones.
-    ensures memo { (s : Sight) (old : Option Node) → IfSome old (λ x. element_of x ≡ root_element s.program) → All (λ v. v.memo ≡ true → v.evaluated ≡ v.dirty) (whole_comings s old) }
-    ensures exact { (s : Sight) (old : Option Node) → IfSome old (λ x. element_of x ≡ root_element s.program) → all_memo s.program ≡ true → evaluated_places s old ≡ dirty_places s old }
+    // The places that are evaluated are exactly the dirty ones.
+    ensures exact { (s : Sight) (old : Option Node) → IfSome old (λ x. element_of x ≡ root_element s.program) → evaluated_places s old ≡ dirty_places s old }
     ensures fewer { (s : Sight) (old : Option Node) → whole_evaluated s old ≤ whole each_body s old }
     // Nothing is evaluated of a tree whose element is as before, that is idle, whose instances have each included update done, and
     // in which reads hold.
-    ensures rests { (s : Sight) (u : Flag) (cs : Contexts) (x : Node) (n : ℕ) → is_as_before s u (element_of x) (Some x) ≡ true → IsSettled s.program (known_by s) x
+    ensures rests { (s : Sight) (u : Flag) (cs : Contexts) (x : Node) (n : ℕ) → is_as_before u (element_of x) (Some x) ≡ true → IsSettled s.program (known_by s) x
         → IsIdle s x → ForEach (IsUndue s) x → ReadsHold (version_seen s) cs x → evaluated n s u cs (element_of x) (Some x) ≡ 0 }
     ensures undue_later { (s : Sight) (j : Journal) (m : Mark) → SeesSameWork s j → IsUndue s m → IsUndue (record s { journal = j }) m }
 {}

@@ -1,4 +1,4 @@
-//! Laws of what a render costs: it evaluates the bodies of components that have a cause, and of those whose element was made anew.
+//! Laws of what a render costs: it evaluates the bodies of components that have a cause, and of those whose element is another one.
 #![tactic(auto)]
 
 mod examples;

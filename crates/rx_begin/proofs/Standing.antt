@@ -33,8 +33,8 @@ abbrev pub KnowsElement : Trees Fiber → (p : ℕ) → Fiber → (again : Bool)
 KnowsElement t p v again = again ≡ true → IsElementOf t.current (old_of t.draft p) v.element
 
 -- what is told of a place's element is told of its fiber
-pub element_is_again : (memo : Bool) (c : Shape Fiber) (o : Option ℕ) (v : Fiber) (e : Element) (again : Bool) → TellsAgain memo c o v again → e ≡ v.element → again ≡ true → IsElementOf c o e
-element_is_again memo c o v e again tells is so = subst (IsElementOf c o) (sym is) (tells.0 so).same
+pub element_is_again : (component : Bool) (c : Shape Fiber) (o : Option ℕ) (v : Fiber) (e : Element) (again : Bool) → TellsAgain component c o v again → e ≡ v.element → again ≡ true → IsElementOf c o e
+element_is_again component c o v e again tells is so = subst (IsElementOf c o) (sym is) (tells.0 so).same
 
 -- That is the element of the place.
 pub same_here : (t : Trees Fiber) (st : Stack) (p n : ℕ) (fs : List Frame) (cs : Contexts) (e : Element) (old : Option Node) → KnowsPlaces t

@@ -29,7 +29,6 @@ ghost use Rattle.rx_meaning.specs.Cursor.{Frame, at_place};
 ghost use Rattle.rx_meaning.specs.Counts.{each_body, next_counts};
 ghost use Rattle.rx_meaning.specs.Generations.{generation_below};
 ghost use Rattle.rx_meaning.specs.Settled.{DoneBefore};
-ghost use Rattle.rx_meaning.specs.Touched.{is_memo};
 ghost use Rattle.rx_model.specs.State.{State};
 ghost use Rattle.rx_model.specs.HooksOf.{KeepsAllHooks};
 ghost use Rattle.rx_fiber.specs.Standing.{StandsAt, is_stood};
@@ -42,8 +41,8 @@ ghost use Rattle.rx_begin.specs.Kids.{HasKids};
 ghost use Rattle.rx_children.specs.declared.node.Begun.TheVariants.{Suspended, Thrown};
 ghost use Rattle.rx_begin.specs.Beginning.{IsAtPlace, BeginsPlace, awaited_again, is_opened, is_taken};
 
+use crate::before::is_as_before;
 use crate::body::begin_component;
-use crate::memo::is_as_before;
 use crate::place::Place;
 use rx_base::{Awaits, Int, Steps};
 use rx_catch::CatchState;
@@ -290,10 +289,10 @@ fn has_stood(origin: Origin, contexts: &ContextStack) -> bool
 /// Begins the place of a fiber, as one unit of a render (react.dev, Render and Commit): a component's body is evaluated, once;
 /// a provider gives its value; an error boundary that has caught a value goes on with its fallback; the fibers of all children are
 /// made, each for the old child of its identity and type. If the
-/// element is the current one, given again, and its component has no cause to be rendered anew, the body is skipped, and the
-/// children are clones of the old ones (react.dev, useState: React skips the component). If the place is a hidden boundary's,
+/// element is the current one, given again, or an equal one, and its component has no cause to be rendered anew, the body is
+/// skipped, and the children are clones of the old ones (react.dev, memo: React skips the component). If the place is a hidden boundary's,
 /// has an element equal to the current one, which is shown, no context has another value there than in the committed tree, and
-/// nothing new has come for what it waits for and keeps, its children are not tried. If the element is given again, nothing in the
+/// nothing new has come for what it waits for and keeps, its children are not tried. If the element is as before, nothing in the
 /// tree of the old node has a cause, and what is read there is the same, the old children are taken over as they stand (react.dev,
 /// useContext: React finds the readers, also below components that it skips): the old node is shown and no context has another
 /// value there, or nothing there reads one, and it stands so and no resource has another version, or nothing there reads a
@@ -317,11 +316,10 @@ pub fn begin<L: Ledger>(
     ensures begun { IfOk result (λ b. (s : Sight) → IsSceneOf scene.now s → BeginsPlace s (is_way scene.now.ways.now) (kept_hooks hooks.old) tree.old contexts.old tree.new contexts.new at b.0) }
     ensures current { tree.new.current ≡ tree.old.current }
     ensures bodies { IfOk result (λ b. steps.new ≡ steps.old + (if b.1 then 1 else 0)) }
-    // A component's body is skipped exactly if its element is that of the current fiber, given again, and its old instance is
-    // calm. No other element has one.
+    // A component's body is skipped exactly if its element is equal to that of the current fiber, and its old instance is calm. No other element has one.
     ensures none { IfOk result (λ b. (v : fibers.Fiber) → Some v ≡ made_value_of tree.old.draft at → parts_in v.element ≡ None → b.1 ≡ false) }
     ensures body { IfOk result (λ b. (v : fibers.Fiber) → Some v ≡ made_value_of tree.old.draft at → IsSome (parts_in v.element)
-        → (again : Bool) × TellsAgain (is_memo scene.now.checked.now v.element) tree.old.current (old_of tree.old.draft at) v again
+        → (again : Bool) × TellsAgain (is_some (parts_in v.element)) tree.old.current (old_of tree.old.draft at) v again
         × (again ≡ true → TellsCalm scene.now (kept_hooks hooks.old) (values_at contexts.old) (option_and_then instance_in (mark_at tree.old.current (old_of tree.old.draft at))) (not b.1))
         × (again ≡ false → b.1 ≡ true)) }
     // A hidden boundary's children are tried only if its element is another one than that of its current fiber, or that one is not
@@ -335,7 +333,7 @@ pub fn begin<L: Ledger>(
     // below it; a hidden boundary counts as one that was made anew. They are made for no current fiber if the fiber is.
     ensures kids { IfOk result (λ b. (v : fibers.Fiber) → Some v ≡ made_value_of tree.old.draft at → is_opened b.0 ≡ true
         → (origin : Origin) × (again : Bool) × TellsSteady tree.old.current (old_of tree.old.draft at) v origin.visible
-        × TellsAgain (is_memo scene.now.checked.now v.element) tree.old.current (old_of tree.old.draft at) v again
+        × TellsAgain (is_some (parts_in v.element)) tree.old.current (old_of tree.old.draft at) v again
         × (origin.generation ≡ generation_below b.1 (again && keeps_children true (mark_at tree.old.current (old_of tree.old.draft at))) (stands_for_children v.element) (generation_of v.stage))
         × ((h : HasKids origin tree.old tree.new at) × (b.0 ≡ begun_over h.kids))) }
     // A hidden boundary that waits still is to try its children, of which none is made; old children stand as they are; and if a
@@ -345,15 +343,15 @@ pub fn begin<L: Ledger>(
     ensures taken_over { IfOk result (λ b. is_taken b.0 ≡ true → HasTaken tree.old tree.new at) }
     ensures waits { IfOk result (λ b. (r : ℕ) → b.0 ≡ Suspended r → tree.new ≡ tree.old) }
     ensures throws { IfOk result (λ b. (x : ℤ) → b.0 ≡ Thrown x → tree.new ≡ tree.old) }
-    // Old children are taken over only if the element is given again, with no body evaluated; and the tree of the old node
+    // Old children are taken over only if the element is as before, with no body evaluated; and the tree of the old node
     // rests, but for what is passed.
-    ensures again { IfOk result (λ b. is_taken b.0 ≡ true → (v : fibers.Fiber) → Some v ≡ made_value_of tree.old.draft at → IsAgain (is_memo scene.now.checked.now v.element) tree.old.current (old_of tree.old.draft at) v) }
+    ensures again { IfOk result (λ b. is_taken b.0 ≡ true → (v : fibers.Fiber) → Some v ≡ made_value_of tree.old.draft at → IsAgain (is_some (parts_in v.element)) tree.old.current (old_of tree.old.draft at) v) }
     ensures taken { IfOk result (λ b. is_taken b.0 ≡ true → b.1 ≡ false) }
     ensures rests { IfOk result (λ b. is_taken b.0 ≡ true → (x : Node) → IsOld tree.old.current (old_of tree.old.draft at) (Some x)
         → EachBut (is_way scene.now.ways.now) (Rests (kept_hooks hooks.old) scene.now.lanes scene.now.cut) x) }
-    // What is given again is begun over its own children only if there is a cause in the tree of its old node, or an instance
+    // What is as before is begun over its own children only if there is a cause in the tree of its old node, or an instance
     // there stands on a way; else its old children are taken over.
-    ensures causes { IfOk result (λ b. (v : fibers.Fiber) → Some v ≡ made_value_of tree.old.draft at → IsAgain (is_memo scene.now.checked.now v.element) tree.old.current (old_of tree.old.draft at) v → is_taken b.0 ≡ false
+    ensures causes { IfOk result (λ b. (v : fibers.Fiber) → Some v ≡ made_value_of tree.old.draft at → IsAgain (is_some (parts_in v.element)) tree.old.current (old_of tree.old.draft at) v → is_taken b.0 ≡ false
         → HasCauseToBegin scene.now (kept_hooks hooks.old) (values_at contexts.old) (is_some (parts_in v.element)) (is_stood contexts.old v.stage) tree.old.current (old_of tree.old.draft at)) }
     ensures few { IfOk result (λ b. (s : Sight) (n : ℕ) (fs : List Frame) (cs : Contexts) (e : elements.Element) (old : Option Node) → IsSceneOf scene.now s → StandsAt tree.old contexts.old (Some at) (at_place (suc n) fs cs e old)
         → (if b.1 then 1 else 0) ≤ next_counts each_body s (at_place (suc n) fs cs e old)) }
@@ -365,7 +363,7 @@ pub fn begin<L: Ledger>(
 {
     tree.place_facts();
     tree.facts();
-    let again = is_as_before(tree, at, scene.checked);
+    let again = is_as_before(tree, at);
     let fiber = tree.value(at);
     let origin = fiber.origin();
     let element = fiber.element().copy()?;

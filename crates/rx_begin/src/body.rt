@@ -254,7 +254,7 @@ fn is_calm(instance: &Option<Instance>, scene: &Scene, hooks: &HookStore, contex
     }
 }
 
-// Whether a body is skipped: the element is given again, and its instance has no cause to be rendered anew.
+// Whether a body is skipped: the element is as before, and its instance has no cause to be rendered anew.
 fn is_skipped(
     again: bool,
     instance: &Option<Instance>,

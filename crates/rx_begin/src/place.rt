@@ -6,7 +6,7 @@ use rx_fiber::Origin;
 pub(crate) struct Place {
     /// What its fiber waits with.
     pub origin: Origin,
-    /// Whether its element is that of its current fiber, given again.
+    /// Whether its element is that of its current fiber, given again, or an equal one of a component.
     pub again: bool,
     /// Whether its current fiber is shown, and no context has another value at the place than in the committed tree.
     pub stood: bool,

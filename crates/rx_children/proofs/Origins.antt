@@ -106,13 +106,13 @@ pub later_not_again : (c : Shape Fiber) (o : Option ℕ) (v : Fiber) (g : ℕ) �
 later_not_again c o v g is later = (λ so. absurd (let q : ⊥ = cc in q), λ h. absurd (later (is ∙ h.generation refl)))
 
 -- a clone is given again
-pub clone_is_again : (memo : Bool) (c : Shape Fiber) (o : Option ℕ) (v : Fiber) → IsAgain false c o v → TellsAgain memo c o v true
-clone_is_again memo c o v h = (λ so. record { generation = λ plain. h.generation refl; same = h.same }, λ i. refl)
+pub clone_is_again : (component : Bool) (c : Shape Fiber) (o : Option ℕ) (v : Fiber) → IsAgain false c o v → TellsAgain component c o v true
+clone_is_again component c o v h = (λ so. record { generation = λ plain. h.generation refl; same = h.same }, λ i. refl)
 
--- and one of the first generation, or of a component that is declared by `memo`, if it is equal
-pub equal_is_again : (memo : Bool) (c : Shape Fiber) (o : Option ℕ) (v : Fiber) (e : Element) (b : Bool) → (memo ≡ false → generation_of v.stage ≡ 0) → e ≡ v.element → (b ≡ true → IsElementOf c o e) → (IsElementOf c o e → b ≡ true)
-    → TellsAgain memo c o v b
-equal_is_again memo c o v e b first element equal all = (
+-- and one of the first generation, or of a component, if it is equal
+pub equal_is_again : (component : Bool) (c : Shape Fiber) (o : Option ℕ) (v : Fiber) (e : Element) (b : Bool) → (component ≡ false → generation_of v.stage ≡ 0) → e ≡ v.element → (b ≡ true → IsElementOf c o e) → (IsElementOf c o e → b ≡ true)
+    → TellsAgain component c o v b
+equal_is_again component c o v e b first element equal all = (
   λ so. record { generation = first; same = subst (IsElementOf c o) element (equal so) },
   λ h. all (subst (IsElementOf c o) (sym element) h.same),
 )

@@ -26,14 +26,14 @@ pub record IsSteady (current : Shape Fiber) (o : Option ℕ) (v : Fiber) : Type 
 abbrev pub TellsSteady : Shape Fiber → Option ℕ → Fiber → Bool → Type 0
 TellsSteady current o v b = (b ≡ true → IsSteady current o v) × (IsSteady current o v → b ≡ true)
 
--- the element of a place's fiber is that of the current fiber for which it was made, given again; or it is equal to that, and its component is declared by `memo`
-pub record IsAgain (memo : Bool) (current : Shape Fiber) (o : Option ℕ) (v : Fiber) : Type 0 where
-  pub generation : memo ≡ false → generation_of v.stage ≡ 0
+-- the element of a place's fiber is that of the current fiber for which it was made, given again; or it is equal to that, and a component's
+pub record IsAgain (component : Bool) (current : Shape Fiber) (o : Option ℕ) (v : Fiber) : Type 0 where
+  pub generation : component ≡ false → generation_of v.stage ≡ 0
   pub same : IsElementOf current o v.element
 
 -- a test tells whether it is
-abbrev pub TellsAgain : (memo : Bool) → Shape Fiber → Option ℕ → Fiber → Bool → Type 0
-TellsAgain memo current o v b = (b ≡ true → IsAgain memo current o v) × (IsAgain memo current o v → b ≡ true)
+abbrev pub TellsAgain : (component : Bool) → Shape Fiber → Option ℕ → Fiber → Bool → Type 0
+TellsAgain component current o v b = (b ≡ true → IsAgain component current o v) × (IsAgain component current o v → b ≡ true)
 
 -- if the fiber of a place is a clone, its element is given again
 abbrev pub KnowsClone : Trees Fiber → ℕ → Type 0

@@ -49,18 +49,19 @@ fn is_equal(tree: &FiberTree<Fiber>, at: FiberId, element: &Element) -> bool
 
 /// Whether the element of a place's fiber is that of the current fiber for which it was made, given again: no body on the way to
 /// it was evaluated, or each gave again what it was given, as a component gives its `children`. An equal one that a body made
-/// anew is another, unless its component is declared by `memo` (react.dev, memo).
-pub fn is_again(tree: &FiberTree<Fiber>, at: FiberId, memo: bool) -> bool
+/// anew is another, unless it is a component's (`component`): that is compared by value, as if each were declared by `memo`
+/// (react.dev, memo).
+pub fn is_again(tree: &FiberTree<Fiber>, at: FiberId, component: bool) -> bool
     requires bare { IsBareAt tree.now at }
     requires clone { KnowsClone tree.now at }
-    ensures { (v : fibers.Fiber) → Some v ≡ made_value_of tree.now.draft at → TellsAgain memo tree.now.current (old_of tree.now.draft at) v result }
+    ensures { (v : fibers.Fiber) → Some v ≡ made_value_of tree.now.draft at → TellsAgain component tree.now.current (old_of tree.now.draft at) v result }
 {
     tree.place_facts();
     let fiber = tree.value(at);
     if fiber.is_cloned() {
         return true;
     }
-    if !memo && fiber.generation() != 0 {
+    if !component && fiber.generation() != 0 {
         return false;
     }
     is_equal(tree, at, fiber.element())

@@ -6,7 +6,6 @@ use Rattle.std.specs.Ordering.{int_eq}
 use Rattle.std.specs.Cmp.Lexicographic.{pointwise}
 use Rattle.rx_base.specs.Awaits.{Awaits, awaits_where}
 use Rattle.rx_ast.specs.Syntax.{Program}
-use Rattle.rx_rules.specs.Names.{component_at}
 use Rattle.rx_rules.specs.Bounds.{may_throw_in}
 use Rattle.rx_susp.specs.declared.boundary.BoundaryState.{BoundaryState}
 use Rattle.rx_susp.specs.Boundary.{hides, may_skip}
@@ -221,10 +220,6 @@ component_in (elements.list marked es) = None
 component_in (elements.boundary k f es) = None
 component_in (elements.catcher k f es) = None
 component_in (elements.provider c k x es) = None
-
--- the component of an element is declared by `memo`
-abbrev pub is_memo : Program → Element → Bool
-is_memo p e = option_map_or (λ c. option_map_or (λ d. d.memo) (component_at p c) false) (component_in e) false
 
 -- the visit of the place itself; if nothing stands there, there is none
 abbrev pub visit_here : Sight → Setting → Element → Option Node → Shape → List Visit

@@ -1,5 +1,5 @@
 -- Where a unit of each kind comes to.
-use Rattle.std.specs.Prelude.{◌≡◌, ℕ, ℤ, zero, suc, ◌+◌, ◌≤◌, Bool, true, false, ◌&&◌, List, [], ◌∷◌, filter, nat_eq, Option, Some, None, Result, Ok, Err, IfOk, OnOk, OnErr, refl}
+use Rattle.std.specs.Prelude.{◌≡◌, ℕ, ℤ, zero, suc, ◌+◌, ◌≤◌, Bool, true, false, ◌&&◌, List, [], ◌∷◌, filter, nat_eq, Option, Some, None, Result, Ok, Err, IfOk, OnOk, OnErr, is_some, refl}
 use Rattle.std.specs.List.{range_with_len}
 use Rattle.std.proofs.Common.{sym, ap, ◌∙◌, subst, arith, add-one}
 use Rattle.rx_base.specs.Awaits.{Awaits, one, nothing, awaits_where}
@@ -34,7 +34,7 @@ use Rattle.rx_causes.specs.declared.scene.Scene.{Scene}
 use Rattle.rx_causes.specs.Scenes.{IsSceneOf, KeepsHooks, GivesHooks, TellsNews}
 use Rattle.rx_causes.specs.Hidden.{KeepsHooksIf, GivesHooksIf, ForEach, ForEachIn}
 use Rattle.rx_children.specs.Again.{HasOldFallback}
-use Rattle.rx_meaning.specs.Touched.{is_memo, may_throw_anew, sees_refresh}
+use Rattle.rx_meaning.specs.Touched.{may_throw_anew, sees_refresh}
 use Rattle.rx_begin.specs.Beginning.{IsAtPlace, stands, HasLists, IsHiddenAgain, IsTakenOver, BeginsPlace}
 use Rattle.rx_children.specs.Units.{IsPlace, IsEnd}
 use Rattle.rx_ways.specs.Ways.{is_way, CoversIf}
@@ -62,6 +62,7 @@ use Rattle.rx_render.specs.Costing as paying
 use Rattle.rx_render.specs.declared.at.At.{At}
 use Rattle.rx_render.specs.declared.at.At.TheVariants.{Begins, Completes}
 use Rattle.rx_render.specs.Rendering.{ComesTo, to_place, to_end, to_tree}
+use Rattle.rx_children.specs.Nodes.{parts_in}
 use Rattle.rx_children.specs.Origins.{IsAgain, TellsAgain}
 use Rattle.begin_laws.proofs.Costing.{before_is}
 use Rattle.rx_render.specs.Advancing.{at_after, at_opened, Goes, by_unit, past_attempt, past_subtree, CanBegin, Advances}
@@ -165,10 +166,10 @@ told_there t st id n us fs cs e old fits h (begins_place {v = v} {o = o} {rs = r
     sym (told_stood t st id us fits h k v o rs here moves) ∙ told v (sym (ap made_value_in (is-at t fits k id v o (taken shapes.none) rs here).list))
 
 -- what its fiber tells of its element is told too
-before_there : (s : Sight) (t : Trees Fiber) (st : Stack) (id n : ℕ) (us : Flags) (fs : List Frame) (cs : Contexts) (e : Element) (old : Option Node) (x : Node) → Fits t → FlagsAtPlace t id us
+before_there : (t : Trees Fiber) (st : Stack) (id n : ℕ) (us : Flags) (fs : List Frame) (cs : Contexts) (e : Element) (old : Option Node) (x : Node) → Fits t → FlagsAtPlace t id us
     → StandsAt t st (Some id) (at_place (suc n) fs cs e old) → IsOld t.current (old_of t.draft id) (Some x)
-    → ((v : Fiber) → Some v ≡ made_value_of t.draft id → IsAgain (is_memo s.program v.element) t.current (old_of t.draft id) v) → is_as_before s (flag us) e (Some x) ≡ true
-before_there s t st id n us fs cs e old x fits h (begins_place {v = v} {o = o} {rs = rs} {k = k} here is was surrounds values stack moves) is_old again =
+    → ((v : Fiber) → Some v ≡ made_value_of t.draft id → IsAgain (is_some (parts_in v.element)) t.current (old_of t.draft id) v) → is_as_before (flag us) e (Some x) ≡ true
+before_there t st id n us fs cs e old x fits h (begins_place {v = v} {o = o} {rs = rs} {k = k} here is was surrounds values stack moves) is_old again =
     let at = is-at t fits h.flags.around id h.flags.value h.flags.old (taken shapes.none) h.flags.rest h.flags.here in
     let first = is-at t fits k id v o (taken shapes.none) rs here in
     let both : Some (made id h.flags.value h.flags.old (taken shapes.none) h.flags.rest) ≡ Some (made id v o (taken shapes.none) rs) = sym at.list ∙ first.list in
@@ -176,8 +177,7 @@ before_there s t st id n us fs cs e old x fits h (begins_place {v = v} {o = o} {
     let element : h.flags.value.element ≡ e = ap (λ (w : Fiber). w.element) same ∙ is.element in
     let told = again h.flags.value (sym (ap made_value_in at.list)) in
     sym
-    (before_is s.program t.current (old_of t.draft id) h.flags.value (flag us) e (Some x) true is_old element h.told.0
-    (subst (λ m. TellsAgain m t.current (old_of t.draft id) h.flags.value true) (ap (is_memo s.program) element) (λ so. told, λ so. refl)))
+    (before_is t.current (old_of t.draft id) h.flags.value (flag us) e (Some x) true is_old element h.told.0 (λ so. told, λ so. refl))
 
 -- a unit that begins the place of a fiber evaluates at most so many bodies
 abbrev pub AreFew : Sight → Trees Fiber → Stack → (id bodies : ℕ) → Type 0
@@ -297,14 +297,14 @@ module _ (s : Sight) (t new : Trees Fiber) (st' : Stack) (p n : ℕ) (fs : List 
       let covered : CoversIf way (IsUndue s) (Some h.node) = subst (CoversIf way (IsUndue s)) h.was causes.1 in
       there.undue way (rested h.node (subst (IsOld t.current (old_of t.draft p)) h.was h.old_is)) covered
 
-  taken_pays : (way : ℕ → Bool) (kept : ℕ → Option (List Hook)) (us : Flags) (bodies : ℕ) → bodies ≡ 0 → RestsThere s way kept t p → CausesAt s way kept (at_place (suc n) fs cs e old) → is_as_before s (flag us) e (Some h.node) ≡ true
+  taken_pays : (way : ℕ → Bool) (kept : ℕ → Option (List Hook)) (us : Flags) (bodies : ℕ) → bodies ≡ 0 → RestsThere s way kept t p → CausesAt s way kept (at_place (suc n) fs cs e old) → is_as_before (flag us) e (Some h.node) ≡ true
       → UnitPays s t.current bodies us (at_place (suc n) fs cs e old) us (arrive (suc n) fs (Some h.node))
   taken_pays way kept us bodies none rested causes again =
       subst (λ o. UnitPays s t.current bodies us (at_place (suc n) fs cs e o) us (arrive (suc n) fs (Some h.node))) (sym h.was)
       (paying.past_subtree none linked h.reads (subst (IsOld t.current (old_of t.draft p)) h.was h.old_is) h.same h.idle (taken_undue way kept rested causes) again)
 
 module _ (s : Sight) (way : ℕ → Bool) (kept : ℕ → Option (List Hook)) (t : Trees Fiber) (st : Stack) (new : Trees Fiber) (st' : Stack) (id bodies : ℕ) where
-  pub taken_advances : (r : Next) → bodies ≡ 0 → IsLinked t.current → BeginsPlace s way kept t st new st' id answers.Taken → RestsThere s way kept t id → Fits t → ((v : Fiber) → Some v ≡ made_value_of t.draft id → IsAgain (is_memo s.program v.element) t.current (old_of t.draft id) v)
+  pub taken_advances : (r : Next) → bodies ≡ 0 → IsLinked t.current → BeginsPlace s way kept t st new st' id answers.Taken → RestsThere s way kept t id → Fits t → ((v : Fiber) → Some v ≡ made_value_of t.draft id → IsAgain (is_some (parts_in v.element)) t.current (old_of t.draft id) v)
       → ((us : Flags) (x : Node) → FlagsAtPlace t id us → IsOld t.current (old_of t.draft id) (Some x) → HasFlags new (at_after r) us)
       → ((levels : ℕ) (fs : List Frame) (x : Node) → IsPassed new st' id fs x → StandsAt new st' (fiber_in r) (arrive levels fs (Some x)))
       → ((levels : ℕ) (fs : List Frame) (x : Node) → IsPassed new st' id fs x → LeadsTo r (arrive levels fs (Some x)))
@@ -320,7 +320,7 @@ module _ (s : Sight) (way : ℕ → Bool) (kept : ℕ → Option (List Hook)) (t
             record {
               flags = us;
               are = passed us b.node are (subst (IsOld t.current (old_of t.draft id)) b.was b.old_is);
-              pays = taken_pays s t new st' id n fs cs e old linked b way kept us bodies none rested causes (before_there s t st id n us fs cs e old b.node fits are h (subst (IsOld t.current (old_of t.draft id)) b.was b.old_is) again);
+              pays = taken_pays s t new st' id n fs cs e old linked b way kept us bodies none rested causes (before_there t st id n us fs cs e old b.node fits are h (subst (IsOld t.current (old_of t.draft id)) b.was b.old_is) again);
             };
       }
 

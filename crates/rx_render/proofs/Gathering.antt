@@ -1,5 +1,5 @@
 -- What is at or below fibers is gathered along a render.
-use Rattle.std.specs.Prelude.{List, ◌≡◌, ℕ, Bool, true, false, ◌&&◌, Option, Some, None, IfSome, option_and_then, if◌then◌else◌}
+use Rattle.std.specs.Prelude.{List, ◌≡◌, ℕ, Bool, true, false, ◌&&◌, Option, Some, None, IfSome, is_some, option_and_then, if◌then◌else◌}
 use Rattle.std.specs.Option.{option_map_or}
 use Rattle.std.proofs.Common.{refl, sym, ap, ◌∙◌, subst}
 use Rattle.rx_ctx.specs.Contexts.{Stack}
@@ -33,7 +33,7 @@ use Rattle.rx_causes.specs.Scenes.{IsSceneOf}
 use Rattle.rx_causes.proofs.Marks.{mark_is}
 use Rattle.rx_ways.specs.Ways.{is_way}
 use Rattle.rx_begin.specs.Beginning.{BeginsPlace, is_opened}
-use Rattle.rx_children.specs.Nodes.{HasTaken, begun_over, taken_as}
+use Rattle.rx_children.specs.Nodes.{HasTaken, begun_over, parts_in, taken_as}
 use Rattle.rx_fallback.specs.Opening.{HasCaughtKids, HasFallbackKids, alone, beside, opened_at}
 use Rattle.rx_children.specs.Children.{AllWait}
 use Rattle.rx_begin.specs.Kids.{HasKids}
@@ -50,8 +50,6 @@ use Rattle.rx_read.specs.Numbering.{numbered_at, numbered_draft, numbered_fiber}
 use Rattle.rx_render.specs.declared.at.At.{At}
 use Rattle.rx_render.specs.declared.at.At.TheVariants.{Begins, Completes, Over}
 use Rattle.rx_render.specs.Advancing.{at_after, at_opened, CanBegin}
-use Rattle.rx_meaning.specs.Touched.{is_memo}
-use Rattle.rx_ast.specs.Syntax.{Program}
 use Rattle.rx_meaning.specs.Cursor.{Cursor, Frame, at_place}
 use Rattle.rx_beside.specs.Alike.{AllTakeAlike}
 use Rattle.rx_render.proofs.Alike.{IsOwn, begun_of, beside_alike, done_alike, dropped_alike, opened_alike, taken_alike, whole_own}
@@ -269,9 +267,9 @@ begun_none : (d : Draft Fiber) → AllBare d → Leaf ≡ begun_over d → entry
 begun_none (taken s) bare e = ap shapes.first bare
 begun_none (made id v o ks rs) bare e = absurd (let q : ⊥ = cc in q)
 
-module _ (p : Program) (t new : Trees Fiber) (id : ℕ) (fits : Fits t) (evaluated : Bool) (b : Begun)
+module _ (t new : Trees Fiber) (id : ℕ) (fits : Fits t) (evaluated : Bool) (b : Begun)
     (says : (v : Fiber) → Some v ≡ made_value_of t.draft id → is_opened b ≡ true
-    → (origin : Origin) × (again : Bool) × TellsSteady t.current (old_of t.draft id) v origin.visible × TellsAgain (is_memo p v.element) t.current (old_of t.draft id) v again
+    → (origin : Origin) × (again : Bool) × TellsSteady t.current (old_of t.draft id) v origin.visible × TellsAgain (is_some (parts_in v.element)) t.current (old_of t.draft id) v again
     × (origin.generation ≡ generation_below evaluated (again && keeps_children true (mark_at t.current (old_of t.draft id))) (stands_for_children v.element) (generation_of v.stage))
     × ((h : HasKids origin t new id) × (b ≡ begun_over h.kids))) (still : new.current ≡ t.current) (gathering : IsGathering t (Begins id)) where
   here : GatheredHere t id

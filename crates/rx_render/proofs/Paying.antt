@@ -1,5 +1,5 @@
 -- What the beginning of a place pays, by the parts of a unit.
-use Rattle.std.specs.Prelude.{◌≡◌, ℕ, ℤ, suc, Bool, true, false, ◌&&◌, List, [], ◌∷◌, Option, Some, None, if◌then◌else◌}
+use Rattle.std.specs.Prelude.{◌≡◌, ℕ, ℤ, suc, Bool, true, false, ◌&&◌, List, [], ◌∷◌, Option, Some, None, is_some, if◌then◌else◌}
 use Rattle.std.proofs.Common.{refl, sym, ap, ◌∙◌, subst}
 use Rattle.rx_base.specs.Awaits.{Awaits}
 use Rattle.rx_ctx.specs.Contexts.{Stack, moved_in, moves_by, none_moved, values_at}
@@ -32,7 +32,7 @@ use Rattle.rx_causes.specs.Marks.{keeps_children, mark_at}
 use Rattle.rx_causes.specs.Scenes.{IsSceneOf}
 use Rattle.rx_causes.proofs.Marks.{mark_is}
 use Rattle.rx_begin.specs.Beginning.{is_opened}
-use Rattle.rx_children.specs.Nodes.{HasTaken, begun_over}
+use Rattle.rx_children.specs.Nodes.{HasTaken, begun_over, parts_in}
 use Rattle.rx_fallback.specs.Opening.{HasCaughtKids, HasFallbackKids, IsCatchLeft, IsLeft, alone, beside, left, opened_at}
 use Rattle.rx_fallback.specs.Opening as fallbacks
 use Rattle.rx_fallback.proofs.Falling.{boundary_gives}
@@ -56,7 +56,6 @@ use Rattle.rx_render.specs.declared.at.At.TheVariants.{Begins, Completes}
 use Rattle.rx_render.specs.Advancing.{at_after, at_opened}
 use Rattle.rx_render.specs.Costing.{HasFlags, Paid, UnitPays}
 use Rattle.rx_render.specs.Costing as paying
-use Rattle.rx_meaning.specs.Touched.{is_memo}
 use Rattle.rx_render.proofs.Advancing.{AreFew, PaysOpened, PaysThrowing, PaysWaiting}
 
 -- Where flags go
@@ -232,7 +231,7 @@ module _ (s : Sight) (scene : Scene) (sees : IsSceneOf scene s) (kept : ℕ → 
   abbrev pub SaysKids : Trees Fiber → Begun → Type 0
   SaysKids new b =
       (v : Fiber) → Some v ≡ made_value_of t.draft id → is_opened b ≡ true → (origin : Origin) × (again : Bool) × TellsSteady t.current (old_of t.draft id) v origin.visible
-      × TellsAgain (is_memo scene.checked.now v.element) t.current (old_of t.draft id) v again
+      × TellsAgain (is_some (parts_in v.element)) t.current (old_of t.draft id) v again
       × (origin.generation ≡ generation_below evaluated (again && keeps_children true (mark_at t.current (old_of t.draft id))) (stands_for_children v.element) (generation_of v.stage))
       × ((h : HasKids origin t new id) × (b ≡ begun_over h.kids))
 
@@ -243,7 +242,7 @@ module _ (s : Sight) (scene : Scene) (sees : IsSceneOf scene s) (kept : ℕ → 
         let goes = may s scene kept t st id n fs cs e old us sees fits h tells flags tries in
         let (v, there) = value_there n fs cs e old h in
         let (origin, again, steadiness, telling, generation, (kids, over)) = says v there opens_it in
-        let opened : OpensKids scene.checked.now t new id evaluated = record { value = v; is = there; origin = origin; steadiness = steadiness; again = again; telling = telling; generation = generation; kids = kids; current = current } in
+        let opened : OpensKids t new id evaluated = record { value = v; is = there; origin = origin; steadiness = steadiness; again = again; telling = telling; generation = generation; kids = kids; current = current } in
         record {
           flags = unit_flags s us (at_place (suc n) fs cs e old);
           are = as_flags (unit_flags s us (at_place (suc n) fs cs e old))

@@ -174,11 +174,11 @@ module _ (s : Sight) (tree : Option Node) (current : Shape Fiber) (is : IsTreeOf
       subst (λ f. rendered (suc n) s cs f (Some x) ≡ made x) same
       (idle_again n fs cs x o linked stood was idle (subst (λ f. Reaches s tree units bodies (at_place (suc n) fs cs f (Some x))) (sym same) h))
 
-  nothing_at : (u : Flag) (n : ℕ) (fs : List Frame) (cs : Contexts) (x : Node) (e : Element) (o : Option ℕ) → is_as_before s u e (Some x) ≡ true → element_of x ≡ e → IsLinked current → ReadsTheSame s current (given_along fs) cs o x → IsOld current o (Some x) → IsIdle s x
+  nothing_at : (u : Flag) (n : ℕ) (fs : List Frame) (cs : Contexts) (x : Node) (e : Element) (o : Option ℕ) → is_as_before u e (Some x) ≡ true → element_of x ≡ e → IsLinked current → ReadsTheSame s current (given_along fs) cs o x → IsOld current o (Some x) → IsIdle s x
       → ForEach (IsUndue s) x → Reaches s tree units bodies (at_place (suc n) fs cs e (Some x)) → evaluates (suc n) s u cs e (Some x) ≡ 0
   nothing_at u n fs cs x e o again same linked stood was idle undue h =
       subst (λ f. evaluates (suc n) s u cs f (Some x) ≡ 0) same
-      (nothing_rests s u cs x (suc n) (subst (λ f. is_as_before s u f (Some x) ≡ true) (sym same) again) (h.rests.0.settles s.program (known_by s) settled) idle undue (reads_at n fs cs x e o linked stood was h))
+      (nothing_rests s u cs x (suc n) (subst (λ f. is_as_before u f (Some x) ≡ true) (sym same) again) (h.rests.0.settles s.program (known_by s) settled) idle undue (reads_at n fs cs x e o linked stood was h))
 
   as_many : evaluated ≡ 0 → bodies ≡ bodies + evaluated
   as_many none = omega (arith, none)

@@ -53,7 +53,7 @@ pub data UnitPays (s : Sight) (current : Shape Fiber) (bodies : ℕ) (us : Flags
       (beside_kept ∷ us)
       (open_part n fs (falling (boundary key f es) (Some (node (boundary key f es) (of_boundary (Hidden a)) ns kept)) a) (part cs (f ∷ []) kept))
   past_subtree : {n : ℕ} {fs : List Frame} {cs : Contexts} {e : Element} {x : Node} {o : Option ℕ}
-      → bodies ≡ 0 → IsLinked current → ReadsTheSame s current (given_along fs) cs o x → IsOld current o (Some x) → element_of x ≡ e → IsIdle s x → ForEach (IsUndue s) x → is_as_before s (flag us) e (Some x) ≡ true
+      → bodies ≡ 0 → IsLinked current → ReadsTheSame s current (given_along fs) cs o x → IsOld current o (Some x) → element_of x ≡ e → IsIdle s x → ForEach (IsUndue s) x → is_as_before (flag us) e (Some x) ≡ true
       → UnitPays s current bodies us (at_place (suc n) fs cs e (Some x)) us (arrive (suc n) fs (Some x))
 
 -- so many bodies are paid if the parts come to a cursor, and these are the flags there

@@ -1,4 +1,4 @@
-use Rattle.cost_laws.proofs.MemoComputed.{inputs_spare}
+use Rattle.cost_laws.proofs.InputsComputed.{inputs_spare}
 use Rattle.cost_laws.proofs.examples.equal_inputs_spare_bodies.Goals as goal
 
 pub returns : goal.returns

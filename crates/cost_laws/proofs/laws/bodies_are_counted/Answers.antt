@@ -4,7 +4,7 @@ use Rattle.cost_laws.proofs.ComingOnce.{places_once}
 use Rattle.cost_laws.proofs.CostLaws.{attempt_costs, last_costs, later_costs, most_costs, start_costs, take_costs, unit_costs}
 use Rattle.cost_laws.proofs.FewerBodies.{whole_less}
 use Rattle.cost_laws.proofs.LaterWork.{longer_sees_same_work, undue_later}
-use Rattle.cost_laws.proofs.MemoExact.{memos_exact, places_exact}
+use Rattle.cost_laws.proofs.DirtyExact.{places_exact}
 use Rattle.cost_laws.proofs.Resting.{nothing_rests}
 use Rattle.cost_laws.proofs.laws.bodies_are_counted.Goals as goal
 
@@ -22,7 +22,6 @@ returns c =
       places = places_counted;
       each = causes_met;
       once = places_once;
-      memo = memos_exact;
       exact = places_exact;
       fewer = whole_less;
       rests = nothing_rests;

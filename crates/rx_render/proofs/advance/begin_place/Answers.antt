@@ -21,8 +21,6 @@ use Rattle.rx_render.specs.Gathers.{IsGathering}
 use Rattle.rx_render.proofs.Gathering.{child_gathered, leaf_gathered, again_gathered, passed_gathered, taken_node}
 use Rattle.rx_render.proofs.Guarded.{throws_guarded}
 use Rattle.rx_render.proofs.Paying.{again_flags, child_paid, leaf_paid, passed_flags, throws_paid, waits_paid}
-use Rattle.rx_meaning.specs.Touched.{is_memo}
-use Rattle.rx_children.specs.Origins.{IsAgain}
 use Rattle.rx_render.proofs.advance.begin_place.Goals as goal
 
 pub begin-requires-clause-place : goal.begin-requires-clause-place
@@ -122,17 +120,17 @@ returns-in-Taken-clause-comes g c s sees =
     (ap (λ b. if b then 1 else 0) (c.in_ok-begun.ensures.taken (ap is_taken c.in-Taken.is))) c.facts.ensures.linked
     (subst (BeginsPlace s (is_way c.args.scene.now.ways.now) (kept_hooks c.args.hooks.now) c.args.tree.now c.args.contexts.now c.begin.new.tree st c.args.id) c.in-Taken.is (c.in_ok-begun.ensures.begun s sees))
     (λ x was. subst (λ l. EachBut (is_way c.args.scene.now.ways.now) (Rests (kept_hooks c.args.hooks.now) l s.cut) x) (sym sees.lanes)
-    (subst (λ k. EachBut (is_way c.args.scene.now.ways.now) (Rests (kept_hooks c.args.hooks.now) c.args.scene.now.lanes k) x) (sym sees.cut) (c.in_ok-begun.ensures.rests (ap is_taken c.in-Taken.is) x was))) c.facts.ensures.fits (λ v there. subst (λ p. IsAgain (is_memo p v.element) c.args.tree.now.current (old_of c.args.tree.now.draft c.args.id) v) (sym sees.program) (c.in_ok-begun.ensures.again (ap is_taken c.in-Taken.is) v there))
+    (subst (λ k. EachBut (is_way c.args.scene.now.ways.now) (Rests (kept_hooks c.args.hooks.now) c.args.scene.now.lanes k) x) (sym sees.cut) (c.in_ok-begun.ensures.rests (ap is_taken c.in-Taken.is) x was))) c.facts.ensures.fits (c.in_ok-begun.ensures.again (ap is_taken c.in-Taken.is))
     (passed_flags c.args.tree.now c.begin.new.tree c.args.id c.pass.result c.facts.ensures.fits c.facts-in-Taken.ensures.fits c.begin.ensures.current (c.in_ok-begun.ensures.taken_over (ap is_taken c.in-Taken.is)) c.pass.ensures.next)
     (λ levels fs x. c.pass.ensures.stands st levels fs x) (λ levels fs x. c.pass.ensures.leads st levels fs x))
 
 pub returns-in-Child-clause-gathered : goal.returns-in-Child-clause-gathered
 returns-in-Child-clause-gathered g c current h =
-    child_gathered c.args.scene.now.checked.now c.args.tree.now c.begin.new.tree c.args.id c.facts.ensures.fits c.in_ok-begun.evaluated c.in_ok-begun.begun c.in_ok-begun.ensures.kids c.begin.ensures.current h c.in-Child.child c.in-Child.is
+    child_gathered c.args.tree.now c.begin.new.tree c.args.id c.facts.ensures.fits c.in_ok-begun.evaluated c.in_ok-begun.begun c.in_ok-begun.ensures.kids c.begin.ensures.current h c.in-Child.child c.in-Child.is
 
 pub returns-in-Leaf-clause-gathered : goal.returns-in-Leaf-clause-gathered
 returns-in-Leaf-clause-gathered g c current h =
-    leaf_gathered c.args.scene.now.checked.now c.args.tree.now c.begin.new.tree c.args.id c.facts.ensures.fits c.in_ok-begun.evaluated c.in_ok-begun.begun c.in_ok-begun.ensures.kids c.begin.ensures.current h c.in-Leaf.is
+    leaf_gathered c.args.tree.now c.begin.new.tree c.args.id c.facts.ensures.fits c.in_ok-begun.evaluated c.in_ok-begun.begun c.in_ok-begun.ensures.kids c.begin.ensures.current h c.in-Leaf.is
 
 pub returns-in_ok-at-in-Suspended-clause-gathered : goal.returns-in_ok-at-in-Suspended-clause-gathered
 returns-in_ok-at-in-Suspended-clause-gathered g c current h =
