@@ -1,5 +1,5 @@
 -- What two matched lists are beside each other once they are walked, and what the nodes over two lists are then.
-use Rattle.std.proofs.Common.{◌≡◌, ℕ, zero, suc, ◌+◌, ◌<◌, ◌≤◌, Bool, true, false, ◌||◌, List, [], ◌∷◌, ◌++◌, length, get_or, take, map, refl, sym, ap, ◌∙◌, subst, arith, Option, Some, None}
+use Rattle.std.proofs.Common.{◌≡◌, ℕ, zero, suc, ◌+◌, ◌<◌, ◌≤◌, Bool, true, false, ◌||◌, if◌then◌else◌, List, [], ◌∷◌, ◌++◌, length, get_or, take, map, refl, sym, ap, ◌∙◌, subst, arith, Option, Some, None}
 use Rattle.std.specs.Prelude.{slice_get, nat_eq, position, option_and_then}
 use Rattle.std.specs.List.{zip}
 use Rattle.std.specs.Option.{option_flatten, option_map_or}
@@ -8,7 +8,7 @@ use Rattle.std.proofs.lemmas.List.{length-map, length-take-le, map-append, take_
 use Rattle.std.proofs.lemmas.Option.{slice_get-get_or}
 use Rattle.rx_elem.specs.Elements.{Element}
 use Rattle.rx_elem.specs.Identity.{identities, identified, is_same_child, is_reused, old_places, moves, moves_after}
-use Rattle.rx_elem.specs.Trees.{Mark, Node, node, Forest, forest, elements_in}
+use Rattle.rx_elem.specs.Trees.{Mark, Node, node, Forest, forest, elements_in, is_host, is_hidden}
 use Rattle.rx_elem.specs.Trees as trees
 use Rattle.rx_elem.specs.Compare.{pasts, node_at}
 use Rattle.rx_node.proofs.Listing.{places-forest}
@@ -172,6 +172,21 @@ whole_by d x y p q o n e f g h =
     let k : p ≡ x = cc in
     let l : q ≡ y = cc in
     rw (k, l) whole
+
+not_displaced : (m : Mark) → displaced_below false m ≡ false
+not_displaced m = by_test (is_host m)
+  where
+    by_test : (b : Bool) → (if b then false else false) ≡ false
+    by_test true = refl
+    by_test false = refl
+
+-- one node, that shows its children, without these
+pub bare_by : (o n p q : Node) (e : Element) (m : Mark) (ns : Forest) → is_hidden m ≡ false → Some n ≡ Some (node e m ns trees.none) → Some n ≡ Some o
+    → p ≡ node e m trees.none trees.none → q ≡ node e m trees.none trees.none → Pruned false o n p q
+bare_by o n p q e m ns shown is same ep eq =
+    let a : n ≡ node e m ns trees.none = cc in
+    let b : o ≡ node e m ns trees.none = cc in
+    rw (a, b, ep, eq) (cut (record { old_shown = shown; new_shown = shown; hosts = refl; numbers = refl }) (not_displaced m))
 
 -- what stands at a place
 pub slot_by : (d : Bool) (x y : Option Node) (o n p q : Node) → x ≡ Some o → y ≡ Some n → Pruned d o n p q → IsSlot d x y (Some p) (Some q)

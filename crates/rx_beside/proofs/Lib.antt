@@ -7,3 +7,4 @@ pub mod Placing
 pub mod Gone
 pub mod Ending
 pub mod Staying
+pub mod SameReads

@@ -70,6 +70,10 @@ pub record Goes (t : Trees Fiber) (displaced : Bool) (c : Pair) (place behind : 
 abbrev pub IsPruned : Trees Fiber → (displaced : Bool) → Pair → Node → Node → Type 0
 IsPruned t d c p q = (o n : Node) → first_node (list_of t (Some c.old)) ≡ Some o → first_node (list_of t (Some c.new)) ≡ Some n → Pruned d o n p q
 
+-- the nodes of a pair are the same
+abbrev pub AreSame : Trees Fiber → Pair → Type 0
+AreSame t c = first_node (list_of t (Some c.new)) ≡ first_node (list_of t (Some c.old))
+
 -- what is left of the lists of a pair stands for what is left of those of another
 pub record PassesTo (t : Trees Fiber) (displaced : Bool) (c e : Pair) : Type 0 where
   pub pair : IsPair t e
@@ -78,17 +82,19 @@ pub record PassesTo (t : Trees Fiber) (displaced : Bool) (c e : Pair) : Type 0 w
   pub passes : (ps qs : Forest) → PrunedInPlace displaced (forest (first_node (list_of t (Some e.old)) ∷ [])) (forest (first_node (list_of t (Some e.new)) ∷ [])) ps qs
       → PrunedInPlace displaced (forest (first_node (list_of t (Some c.old)) ∷ [])) (forest (first_node (list_of t (Some c.new)) ∷ [])) ps qs
 
--- what is left of the nodes of pairs, place by place
+-- what is left of the nodes of pairs, place by place: nothing of those that are the same, unless something up to their host is new or moved
 pub data ArePruned (t : Trees Fiber) (displaced : Bool) : List (Option Pair) → (old new : List (Option Node)) → Type 0 where
   no_more : ArePruned t displaced [] [] []
   gap : {cs : List (Option Pair)} {ps qs : List (Option Node)} → ArePruned t displaced cs ps qs → ArePruned t displaced (None ∷ cs) (None ∷ ps) (None ∷ qs)
   pair : {c : Pair} {p q : Node} {cs : List (Option Pair)} {ps qs : List (Option Node)}
       → IsPruned t displaced c p q → ArePruned t displaced cs ps qs → ArePruned t displaced (Some c ∷ cs) (Some p ∷ ps) (Some q ∷ qs)
+  left : {c : Pair} {cs : List (Option Pair)} {ps qs : List (Option Node)} → displaced ≡ false → AreSame t c → ArePruned t displaced cs ps qs → ArePruned t displaced (Some c ∷ cs) ps qs
 
--- two lists go on with what is left of a pair
+-- two lists go on with what is left of a pair; if both are the same still, its nodes are
 pub record AddsPruned (t : Trees Fiber) (displaced : Bool) (place : Option Pair) (before after : PrunedLists) : Type 0 where
-  pub p : Option Node
-  pub q : Option Node
-  pub old : after.old.items ≡ before.old.items ++ p ∷ []
-  pub new : after.new.items ≡ before.new.items ++ q ∷ []
-  pub are : ArePruned t displaced (place ∷ []) (p ∷ []) (q ∷ [])
+  pub ps : List (Option Node)
+  pub qs : List (Option Node)
+  pub old : after.old.items ≡ before.old.items ++ ps
+  pub new : after.new.items ≡ before.new.items ++ qs
+  pub are : ArePruned t displaced (place ∷ []) ps qs
+  pub same : after.same ≡ true → (before.same ≡ true) × IfSome place (AreSame t)

@@ -4,6 +4,7 @@
 mod beside;
 mod children;
 mod lists;
+mod marks;
 mod pairs;
 mod places;
 mod taking;

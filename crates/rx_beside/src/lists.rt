@@ -1,5 +1,5 @@
 // Nodes and lists of both sides, and which child is which.
-ghost use Rattle.std.specs.Prelude.{◌≡◌, ◌∷◌, [], ◌<◌, ◌^◌, All, None, Some, IfSome, IfOk, length, map};
+ghost use Rattle.std.specs.Prelude.{◌≡◌, false, ◌∷◌, [], ◌<◌, ◌^◌, All, None, Some, IfSome, IfOk, length, map};
 ghost use Rattle.rx_elem.specs.Trees.{node, none, forest, elements_in};
 ghost use Rattle.rx_compare.specs.Matched.{element_at, IsMatched};
 ghost use Rattle.rx_links.specs.Drafts.{or_else};
@@ -9,14 +9,14 @@ ghost use Rattle.rx_read.specs.Lists.{list_of};
 ghost use Rattle.rx_read.specs.Places.{first_node};
 ghost use Rattle.rx_beside.specs.Alike.{AllTakeAlike};
 ghost use Rattle.rx_beside.specs.Children.{IsNode};
-ghost use Rattle.rx_beside.specs.Pairs.{IsPair};
+ghost use Rattle.rx_beside.specs.Pairs.{AreSame, IsPair, IsPruned};
 ghost use Rattle.rx_beside.specs.Slots.{fiber_in, replaced, with_gone};
 
 use crate::children::fill;
 use crate::places::Pair;
-use crate::taking::is_kept;
+use crate::taking::{is_kept, shows_children};
 use rx_elem::{Element, ElementKind};
-use rx_fiber::Fiber;
+use rx_fiber::{Fiber, Stage};
 use rx_keys::{Matching, match_children};
 use rx_links::{FiberId, FiberTree};
 use rx_node::{Mark, Node};
@@ -30,11 +30,12 @@ pub(crate) struct PrunedNodes {
     pub new: Node,
 }
 
-// An old list of children and the new one, both without what stayed the same.
+// An old list of children and the new one, both without what stayed the same; and whether the new one is known to be the old one.
 #[derive(Drop)]
 pub(crate) struct PrunedLists {
     pub old: Vec<Option<Node>>,
     pub new: Vec<Option<Node>>,
+    pub same: bool,
 }
 
 // What stands at a place of the new list; and the old node, if that is without something too.
@@ -111,18 +112,45 @@ pub(crate) fn node_over(
     Node::new(alloc, element, mark, children, Vec::new(alloc))
 }
 
+// The node of a made fiber that is the very one of its alternate, for both, without its children.
+pub(crate) fn over_same(
+    alloc: Global,
+    tree: &FiberTree<Fiber>,
+    pair: &Pair,
+) -> Result<PrunedNodes, AllocError>
+    requires pair { IsPair tree.now pair.now }
+    requires same { AreSame tree.now pair.now }
+    ensures { IfOk result (λ p. IsPruned tree.now false pair.now p.old p.new) }
+{
+    tree.facts();
+    let is = tree.value(pair.new);
+    if let Stage::Begun(mark) = is.stage()
+        && shows_children(mark)
+    {
+        let new = node_over(alloc, is.element(), mark, Vec::new(alloc))?;
+        return Ok(PrunedNodes {
+            old: new.copy()?,
+            new,
+        });
+    }
+    let both = read_both(alloc, tree, pair)?;
+    Ok(both)
+}
+
 // Two lists of which all is left out.
-pub(crate) fn no_lists(alloc: Global) -> PrunedLists
+pub(crate) fn no_lists(alloc: Global, same: bool) -> PrunedLists
     ensures old { result.old.items ≡ [] }
     ensures new { result.new.items ≡ [] }
+    ensures same { result.same ≡ same }
 {
     PrunedLists {
         old: Vec::new(alloc),
         new: Vec::new(alloc),
+        same,
     }
 }
 
-// Two lists with room for so many nodes.
+// Two lists with room for so many nodes, the same so far.
 pub(crate) fn room_for(alloc: Global, count: usize) -> Result<PrunedLists, AllocError>
     ensures old { IfOk result (λ l. l.old.items ≡ []) }
     ensures new { IfOk result (λ l. l.new.items ≡ []) }
@@ -130,6 +158,7 @@ pub(crate) fn room_for(alloc: Global, count: usize) -> Result<PrunedLists, Alloc
     Ok(PrunedLists {
         old: Vec::with_capacity(alloc, count)?,
         new: Vec::with_capacity(alloc, count)?,
+        same: true,
     })
 }
 
@@ -142,14 +171,16 @@ fn one_node(alloc: Global, node: Node) -> Result<Vec<Option<Node>>, AllocError>
     Ok(nodes)
 }
 
-// Two lists of one node each.
+// Two lists of one node each, which are not the same.
 pub(crate) fn one_each(alloc: Global, nodes: PrunedNodes) -> Result<PrunedLists, AllocError>
     ensures old { IfOk result (λ l. l.old.items ≡ Some nodes.old ∷ []) }
     ensures new { IfOk result (λ l. l.new.items ≡ Some nodes.new ∷ []) }
+    ensures same { IfOk result (λ l. l.same ≡ false) }
 {
     Ok(PrunedLists {
         old: one_node(alloc, nodes.old)?,
         new: one_node(alloc, nodes.new)?,
+        same: false,
     })
 }
 

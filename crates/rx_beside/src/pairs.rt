@@ -1,5 +1,5 @@
 // A made fiber beside its alternate: what is left of the nodes that both stand for.
-ghost use Rattle.std.specs.Prelude.{◌≡◌, true, false, ◌||◌, ◌∷◌, [], ◌<◌, IfSome, IfOk, OnOk, Some};
+ghost use Rattle.std.specs.Prelude.{◌≡◌, true, false, ◌||◌, ◌∷◌, [], ◌<◌, IfSome, IfOk, OnOk, None, Some};
 ghost use Rattle.rx_elem.specs.Trees.{forest, host_number, shows_fallback};
 ghost use Rattle.rx_node.specs.MarkView.{mark_seen};
 ghost use Rattle.rx_lists.specs.Shapes.{size};
@@ -10,20 +10,22 @@ ghost use Rattle.rx_read.specs.Places.{places_in, first_node};
 ghost use Rattle.rx_pruned.specs.Pruned.{GoesOn, StaysBare, displaced_below, PrunedInPlace};
 ghost use Rattle.rx_beside.specs.Alike.{AllTakeAlike};
 ghost use Rattle.rx_beside.specs.Children.{IsNode};
-ghost use Rattle.rx_beside.specs.Pairs.{IsPair, StandsInPlace, PassesTo, IsPruned, AddsPruned};
+ghost use Rattle.rx_beside.specs.Pairs.{AreSame, IsPair, StandsInPlace, PassesTo, IsPruned, AddsPruned};
 ghost use Rattle.rx_beside.specs.Slots.{IsSlot, AreLists};
 
 use crate::children::fibers_of;
 use crate::lists::{
     PrunedLists, PrunedNodes, Slot, fiber_in, match_fibers, no_lists, node_over, one_each,
-    read_wholes, replace, room_for, vacant_places, with_gone,
+    over_same, read_wholes, replace, room_for, vacant_places, with_gone,
 };
+use crate::marks::came_out_same;
 use crate::places::{Heads, Pair, is_left, is_made_for, only_pair, pairs_in_place};
 use crate::taking::takes_over;
 use rx_fiber::{Fiber, Stage};
 use rx_links::{FiberId, FiberTree};
 use rx_node::Mark;
 use rx_read::{made_child, read_fiber};
+use rx_set::NumberSet;
 use std::alloc::{AllocError, Global};
 use std::rc::Rc;
 
@@ -151,33 +153,75 @@ fn pair_of(tree: &FiberTree<Fiber>, old: Option<FiberId>, new: FiberId) -> Optio
     }
 }
 
-// The nodes that a made fiber and its alternate stand for.
+// What is left of the nodes that a made fiber and its alternate stand for: nothing if they are the same, so that a commit has
+// nothing to do there or below, unless something up to their host is new or moved.
 #[cycle(pair)]
-pub(crate) fn read_pair(
+fn read_pair(
     alloc: Global,
     tree: &FiberTree<Fiber>,
     pair: &Pair,
     displaced: bool,
-) -> Result<PrunedNodes, AllocError>
+    working: &NumberSet,
+) -> Result<Option<PrunedNodes>, AllocError>
     requires pair { IsPair tree.now pair.now }
     requires alike { AllTakeAlike tree.now.current tree.now.draft }
-    ensures { IfOk result (λ p. IsPruned tree.now displaced pair.now p.old p.new) }
+    ensures pruned { IfOk result (λ r. IfSome r (λ p. IsPruned tree.now displaced pair.now p.old p.new)) }
+    ensures still { IfOk result (λ r. r ≡ None → displaced ≡ false) }
+    ensures same { IfOk result (λ r. r ≡ None → AreSame tree.now pair.now) }
 {
+    if is_left(tree, pair, displaced) {
+        return Ok(None);
+    }
     tree.facts();
     let was = tree.value(pair.old);
     let is = tree.value(pair.new);
     if let Stage::Begun(had) = was.stage()
         && let Stage::Begun(mark) = is.stage()
         && goes_on(had, mark)
-        && let Some(lists) = read_lists(alloc, tree, pair, displaced_below(displaced, mark))?
+        && let Some(lists) = read_lists(
+            alloc,
+            tree,
+            pair,
+            displaced_below(displaced, mark),
+            working,
+        )?
     {
-        return Ok(PrunedNodes {
+        if !displaced
+            && lists.same
+            && came_out_same(had, mark, working)
+            && is.element().same(was.element())
+        {
+            return Ok(None);
+        }
+        return Ok(Some(PrunedNodes {
             old: node_over(alloc, was.element(), had, lists.old)?,
             new: node_over(alloc, is.element(), mark, lists.new)?,
-        });
+        }));
     }
     let wholes = read_wholes(alloc, tree, pair)?;
-    Ok(wholes)
+    Ok(Some(wholes))
+}
+
+// The same where nothing is left out of a list: nodes that are the same are there without their children.
+#[cycle(pair)]
+pub(crate) fn read_kept(
+    alloc: Global,
+    tree: &FiberTree<Fiber>,
+    pair: &Pair,
+    displaced: bool,
+    working: &NumberSet,
+) -> Result<PrunedNodes, AllocError>
+    requires pair { IsPair tree.now pair.now }
+    requires alike { AllTakeAlike tree.now.current tree.now.draft }
+    ensures { IfOk result (λ p. IsPruned tree.now displaced pair.now p.old p.new) }
+{
+    match read_pair(alloc, tree, pair, displaced, working)? {
+        Some(nodes) => Ok(nodes),
+        None => {
+            let bare = over_same(alloc, tree, pair)?;
+            Ok(bare)
+        }
+    }
 }
 
 // Their lists of children: if these were taken over, both are left out, but below what moved they stay whole.
@@ -187,10 +231,12 @@ fn read_lists(
     tree: &FiberTree<Fiber>,
     pair: &Pair,
     displaced: bool,
+    working: &NumberSet,
 ) -> Result<Option<PrunedLists>, AllocError>
     requires pair { IsPair tree.now pair.now }
     requires alike { AllTakeAlike tree.now.current tree.now.draft }
-    ensures { IfOk result (λ r. IfSome r (λ l. AreLists displaced (forest (places_in 0 (old_kids tree.now pair.now.new))) (forest (places_in 0 (grafted (made_kids_of tree.now.draft pair.now.new)))) (forest l.old.items) (forest l.new.items))) }
+    ensures lists { IfOk result (λ r. IfSome r (λ l. AreLists displaced (forest (places_in 0 (old_kids tree.now pair.now.new))) (forest (places_in 0 (grafted (made_kids_of tree.now.draft pair.now.new)))) (forest l.old.items) (forest l.new.items))) }
+    ensures same { IfOk result (λ r. IfSome r (λ l. l.same ≡ true → places_in 0 (grafted (made_kids_of tree.now.draft pair.now.new)) ≡ places_in 0 (old_kids tree.now pair.now.new))) }
 {
     tree.facts();
     let first = made_child(tree, pair.new);
@@ -199,13 +245,13 @@ fn read_lists(
             old: tree.first_child(pair.old),
             new: first,
         };
-        let lists = read_made(alloc, tree, &heads, displaced)?;
+        let lists = read_made(alloc, tree, &heads, displaced, working)?;
         return Ok(Some(lists));
     }
     if displaced {
         Ok(None)
     } else {
-        Ok(Some(no_lists(alloc)))
+        Ok(Some(no_lists(alloc, true)))
     }
 }
 
@@ -216,19 +262,21 @@ fn read_made(
     tree: &FiberTree<Fiber>,
     heads: &Heads,
     displaced: bool,
+    working: &NumberSet,
 ) -> Result<PrunedLists, AllocError>
     requires old { IfSome heads.now.old (IsIn tree.now) }
     requires made { IfSome heads.now.new (Makes tree.now.draft) }
     requires alike { AllTakeAlike tree.now.current tree.now.draft }
-    ensures { IfOk result (λ l. AreLists displaced (forest (places_in 0 (list_of tree.now heads.now.old))) (forest (places_in 0 (list_of tree.now heads.now.new))) (forest l.old.items) (forest l.new.items)) }
+    ensures lists { IfOk result (λ l. AreLists displaced (forest (places_in 0 (list_of tree.now heads.now.old))) (forest (places_in 0 (list_of tree.now heads.now.new))) (forest l.old.items) (forest l.new.items)) }
+    ensures same { IfOk result (λ l. l.same ≡ true → places_in 0 (list_of tree.now heads.now.new) ≡ places_in 0 (list_of tree.now heads.now.old)) }
 {
     match only_pair(tree, heads) {
         Some(pair) => {
-            let alone = read_alone(alloc, tree, &pair, displaced)?;
+            let alone = read_alone(alloc, tree, &pair, displaced, working)?;
             Ok(alone)
         }
         None => {
-            let listed = read_listed(alloc, tree, heads, displaced)?;
+            let listed = read_listed(alloc, tree, heads, displaced, working)?;
             Ok(listed)
         }
     }
@@ -241,16 +289,18 @@ fn read_listed(
     tree: &FiberTree<Fiber>,
     heads: &Heads,
     displaced: bool,
+    working: &NumberSet,
 ) -> Result<PrunedLists, AllocError>
     requires old { IfSome heads.now.old (IsIn tree.now) }
     requires made { IfSome heads.now.new (Makes tree.now.draft) }
     requires alike { AllTakeAlike tree.now.current tree.now.draft }
-    ensures { IfOk result (λ l. AreLists displaced (forest (places_in 0 (list_of tree.now heads.now.old))) (forest (places_in 0 (list_of tree.now heads.now.new))) (forest l.old.items) (forest l.new.items)) }
+    ensures lists { IfOk result (λ l. AreLists displaced (forest (places_in 0 (list_of tree.now heads.now.old))) (forest (places_in 0 (list_of tree.now heads.now.new))) (forest l.old.items) (forest l.new.items)) }
+    ensures same { IfOk result (λ l. l.same ≡ true → places_in 0 (list_of tree.now heads.now.new) ≡ places_in 0 (list_of tree.now heads.now.old)) }
 {
-    match read_in_place(alloc, tree, heads, displaced)? {
+    match read_in_place(alloc, tree, heads, displaced, working)? {
         Some(lists) => Ok(lists),
         None => {
-            let matched = read_matched(alloc, tree, heads, displaced)?;
+            let matched = read_matched(alloc, tree, heads, displaced, working)?;
             Ok(matched)
         }
     }
@@ -265,19 +315,22 @@ fn read_alone(
     tree: &FiberTree<Fiber>,
     pair: &Pair,
     displaced: bool,
+    working: &NumberSet,
 ) -> Result<PrunedLists, AllocError>
     requires pair { IsPair tree.now pair.now }
     requires stands { StandsInPlace tree.now pair.now }
     requires alike { AllTakeAlike tree.now.current tree.now.draft }
-    ensures { IfOk result (λ l. PrunedInPlace displaced (forest (first_node (list_of tree.now (Some pair.now.old)) ∷ [])) (forest (first_node (list_of tree.now (Some pair.now.new)) ∷ [])) (forest l.old.items) (forest l.new.items)) }
+    ensures lists { IfOk result (λ l. PrunedInPlace displaced (forest (first_node (list_of tree.now (Some pair.now.old)) ∷ [])) (forest (first_node (list_of tree.now (Some pair.now.new)) ∷ [])) (forest l.old.items) (forest l.new.items)) }
+    ensures same { IfOk result (λ l. l.same ≡ true → AreSame tree.now pair.now) }
 {
     let end = end_of_chain(tree, pair, displaced);
-    if is_left(tree, &end, displaced) {
-        return Ok(no_lists(alloc));
+    match read_pair(alloc, tree, &end, displaced, working)? {
+        Some(nodes) => {
+            let lists = one_each(alloc, nodes)?;
+            Ok(lists)
+        }
+        None => Ok(no_lists(alloc, end.new.same(pair.new))),
     }
-    let nodes = read_pair(alloc, tree, &end, displaced)?;
-    let lists = one_each(alloc, nodes)?;
-    Ok(lists)
 }
 
 // The same if each child is the old one at its place, and none is gone; nothing if not.
@@ -287,29 +340,32 @@ fn read_in_place(
     tree: &FiberTree<Fiber>,
     heads: &Heads,
     displaced: bool,
+    working: &NumberSet,
 ) -> Result<Option<PrunedLists>, AllocError>
     requires old { IfSome heads.now.old (IsIn tree.now) }
     requires made { IfSome heads.now.new (Makes tree.now.draft) }
     requires alike { AllTakeAlike tree.now.current tree.now.draft }
-    ensures { IfOk result (λ r. IfSome r (λ l. AreLists displaced (forest (places_in 0 (list_of tree.now heads.now.old))) (forest (places_in 0 (list_of tree.now heads.now.new))) (forest l.old.items) (forest l.new.items))) }
+    ensures lists { IfOk result (λ r. IfSome r (λ l. AreLists displaced (forest (places_in 0 (list_of tree.now heads.now.old))) (forest (places_in 0 (list_of tree.now heads.now.new))) (forest l.old.items) (forest l.new.items))) }
+    ensures same { IfOk result (λ r. IfSome r (λ l. l.same ≡ true → places_in 0 (list_of tree.now heads.now.new) ≡ places_in 0 (list_of tree.now heads.now.old))) }
 {
     let Some(pairs) = pairs_in_place(alloc, tree, heads, displaced)? else {
         return Ok(None);
     };
     let mut lists = room_for(alloc, pairs.len())?;
     'going: for i in 0..pairs.len() {
-        add_place(alloc, tree, &pairs[i], displaced, &mut lists)?;
+        add_place(alloc, tree, &pairs[i], displaced, working, &mut lists)?;
     }
     Ok(Some(lists))
 }
 
-// Goes on with the nodes of a place where each stands in place, or with two vacant places.
+// Goes on with what is left of a place where each stands in place, or with two vacant places.
 #[cycle(pair)]
 fn add_place(
     alloc: Global,
     tree: &FiberTree<Fiber>,
     place: &Option<Pair>,
     displaced: bool,
+    working: &NumberSet,
     lists: &mut PrunedLists,
 ) -> Result<(), AllocError>
     requires pair { IfSome place.now (IsPair tree.now) }
@@ -318,9 +374,11 @@ fn add_place(
 {
     match place {
         Some(pair) => {
-            let nodes = read_pair(alloc, tree, pair, displaced)?;
-            lists.old.push(Some(nodes.old))?;
-            lists.new.push(Some(nodes.new))?;
+            if let Some(nodes) = read_pair(alloc, tree, pair, displaced, working)? {
+                lists.old.push(Some(nodes.old))?;
+                lists.new.push(Some(nodes.new))?;
+                lists.same = false;
+            }
         }
         None => {
             lists.old.push(None)?;
@@ -337,11 +395,13 @@ fn read_matched(
     tree: &FiberTree<Fiber>,
     heads: &Heads,
     displaced: bool,
+    working: &NumberSet,
 ) -> Result<PrunedLists, AllocError>
     requires old { IfSome heads.now.old (IsIn tree.now) }
     requires made { IfSome heads.now.new (Makes tree.now.draft) }
     requires alike { AllTakeAlike tree.now.current tree.now.draft }
-    ensures { IfOk result (λ l. AreLists displaced (forest (places_in 0 (list_of tree.now heads.now.old))) (forest (places_in 0 (list_of tree.now heads.now.new))) (forest l.old.items) (forest l.new.items)) }
+    ensures lists { IfOk result (λ l. AreLists displaced (forest (places_in 0 (list_of tree.now heads.now.old))) (forest (places_in 0 (list_of tree.now heads.now.new))) (forest l.old.items) (forest l.new.items)) }
+    ensures same { IfOk result (λ l. l.same ≡ true → places_in 0 (list_of tree.now heads.now.new) ≡ places_in 0 (list_of tree.now heads.now.old)) }
 {
     let olds = fibers_of(alloc, tree, heads.old)?;
     let news = fibers_of(alloc, tree, heads.new)?;
@@ -352,13 +412,14 @@ fn read_matched(
         let place = matching.places[i];
         let was = fiber_in(&olds, place);
         let moved = or_moved(displaced, matching.moved[i]);
-        let slot = read_slot(alloc, tree, was, news[i], moved)?;
+        let slot = read_slot(alloc, tree, was, news[i], moved, working)?;
         replace(&mut kept, place, slot.old);
         nodes.push(slot.new)?;
     }
     Ok(PrunedLists {
         old: with_gone(alloc, tree, &kept, &olds)?,
         new: nodes,
+        same: false,
     })
 }
 
@@ -370,6 +431,7 @@ fn read_slot(
     old: Option<FiberId>,
     child: Option<FiberId>,
     displaced: bool,
+    working: &NumberSet,
 ) -> Result<Slot, AllocError>
     requires was { IfSome old (IsNode tree.now) }
     requires is { IfSome child (IsNode tree.now) }
@@ -385,7 +447,7 @@ fn read_slot(
     };
     match pair_of(tree, old, new) {
         Some(pair) => {
-            let nodes = read_pair(alloc, tree, &pair, displaced)?;
+            let nodes = read_kept(alloc, tree, &pair, displaced, working)?;
             Ok(Slot {
                 old: Some(nodes.old),
                 new: Some(nodes.new),

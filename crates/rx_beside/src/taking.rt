@@ -35,7 +35,7 @@ pub(crate) fn takes_over(tree: &FiberTree<Fiber>, id: FiberId, has_made: bool) -
 }
 
 // Whether a node with this mark shows its children: it is no boundary that hides them or has caught a value.
-fn shows_children(mark: &Mark) -> bool
+pub(crate) fn shows_children(mark: &Mark) -> bool
     ensures hidden { result ≡ true → is_hidden (mark_seen mark.now) ≡ false }
     ensures shown { result ≡ true → shows_fallback (mark_seen mark.now) ≡ false }
 {

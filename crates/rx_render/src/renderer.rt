@@ -388,7 +388,8 @@ impl Renderer {
 
     /// The current tree and the finished one, both without what stayed the same (react.dev, Render and Commit), without the vacant
     /// places at the ends of their lists, of which fibers do not tell. Takes time for what the render made and for what is gone, and
-    /// none for what is below a list that was taken over.
+    /// none for what is below a list that was taken over. An instance in whose hooks the render has work is there though it came out
+    /// the same.
     ///
     /// # Errors
     ///
@@ -398,7 +399,8 @@ impl Renderer {
         requires current { (y : Option trees.Node) × IsTreeOf y self.now.trees.current }
         ensures { IfOk result (λ b. (y : Option trees.Node) (x : trees.Node) → IsTreeOf y self.now.trees.current → IsTreeOf (Some x) (grafted self.now.trees.draft) → IsBeside (trimmed_if y) (trimmed x) b) }
     {
-        read_beside(self.alloc, &self.fibers)
+        let working = self.hooks.working(self.alloc, self.lanes, self.cut)?;
+        read_beside(self.alloc, &self.fibers, &working)
     }
 
     /// The finished tree as a plain tree, without the vacant places at the ends of its lists. Takes time for the whole tree.

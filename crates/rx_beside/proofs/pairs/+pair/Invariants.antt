@@ -1,11 +1,11 @@
-use Rattle.std.proofs.Common.{◌≡◌, ℕ, ◌+◌, ◌*◌, length, map, take, Option, Some, None}
+use Rattle.std.proofs.Common.{◌≡◌, ℕ, true, ◌+◌, ◌*◌, All, length, map, take, Option, Some, None, IfSome}
 use Rattle.rx_lists.specs.Shapes.{size}
 use Rattle.rx_links.specs.Drafts.{Trees}
 use Rattle.rx_fiber.specs.Fibers.{Fiber}
 use Rattle.rx_read.specs.Lists.{list_of}
 use Rattle.rx_read.specs.Places.{first_node}
 use Rattle.rx_beside.specs.declared.places.Pair.{Pair}
-use Rattle.rx_beside.specs.Pairs.{ArePruned}
+use Rattle.rx_beside.specs.Pairs.{AreSame, ArePruned}
 use Rattle.rx_beside.specs.Slots.{with_gone}
 use Rattle.rx_beside.proofs.Walking.{Walked}
 use Rattle.rx_beside.proofs.pairs.+pair.Given as goal
@@ -17,6 +17,9 @@ size_of t (Some c) = size (list_of t (Some c.new))
 
 abbrev pub decreases-read_pair : goal.decreases-read_pair
 decreases-read_pair l = 10 * size (list_of l.tree.now (Some l.pair.now.new)) + 2
+
+abbrev pub decreases-read_kept : goal.decreases-read_kept
+decreases-read_kept l = 10 * size (list_of l.tree.now (Some l.pair.now.new)) + 3
 
 abbrev pub decreases-read_lists : goal.decreases-read_lists
 decreases-read_lists l = 10 * size (list_of l.tree.now (Some l.pair.now.new)) + 1
@@ -40,11 +43,14 @@ abbrev pub decreases-read_matched : goal.decreases-read_matched
 decreases-read_matched l = 10 * size (list_of l.tree.now l.heads.now.new) + 5
 
 abbrev pub decreases-read_slot : goal.decreases-read_slot
-decreases-read_slot l = 10 * size (list_of l.tree.now l.child) + 3
+decreases-read_slot l = 10 * size (list_of l.tree.now l.child) + 4
 
--- the nodes of the places so far
+-- what is left of the places so far; and if both are the same still, their nodes are
 abbrev pub invariant-read_in_place-going : goal.invariant-read_in_place-going
-invariant-read_in_place-going l = ArePruned l.tree l.displaced (take l.i l.pairs.items) l.lists.old.items l.lists.new.items
+invariant-read_in_place-going l = record {
+  are : ArePruned l.tree l.displaced (take l.i l.pairs.items) l.lists.old.items l.lists.new.items;
+  same : l.lists.same ≡ true → All (λ o. IfSome o (AreSame l.tree)) (take l.i l.pairs.items);
+}
 
 -- the places so far are walked
 abbrev pub invariant-read_matched-going : goal.invariant-read_matched-going
