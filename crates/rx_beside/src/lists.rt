@@ -137,7 +137,7 @@ pub(crate) fn over_same(
     Ok(both)
 }
 
-// Two lists of which all is left out.
+// Two lists of which all is left out; and whether they are the same.
 pub(crate) fn no_lists(alloc: Global, same: bool) -> PrunedLists
     ensures old { result.old.items ≡ [] }
     ensures new { result.new.items ≡ [] }
@@ -148,18 +148,6 @@ pub(crate) fn no_lists(alloc: Global, same: bool) -> PrunedLists
         new: Vec::new(alloc),
         same,
     }
-}
-
-// Two lists with room for so many nodes, the same so far.
-pub(crate) fn room_for(alloc: Global, count: usize) -> Result<PrunedLists, AllocError>
-    ensures old { IfOk result (λ l. l.old.items ≡ []) }
-    ensures new { IfOk result (λ l. l.new.items ≡ []) }
-{
-    Ok(PrunedLists {
-        old: Vec::with_capacity(alloc, count)?,
-        new: Vec::with_capacity(alloc, count)?,
-        same: true,
-    })
 }
 
 // A list of one node.

@@ -16,7 +16,7 @@ ghost use Rattle.rx_beside.specs.Slots.{IsSlot, AreLists};
 use crate::children::fibers_of;
 use crate::lists::{
     PrunedLists, PrunedNodes, Slot, fiber_in, match_fibers, no_lists, node_over, one_each,
-    over_same, read_wholes, replace, room_for, vacant_places, with_gone,
+    over_same, read_wholes, replace, vacant_places, with_gone,
 };
 use crate::marks::came_out_same;
 use crate::places::{Heads, Pair, is_left, is_made_for, only_pair, pairs_in_place};
@@ -351,7 +351,7 @@ fn read_in_place(
     let Some(pairs) = pairs_in_place(alloc, tree, heads, displaced)? else {
         return Ok(None);
     };
-    let mut lists = room_for(alloc, pairs.len())?;
+    let mut lists = no_lists(alloc, true);
     'going: for i in 0..pairs.len() {
         add_place(alloc, tree, &pairs[i], displaced, working, &mut lists)?;
     }

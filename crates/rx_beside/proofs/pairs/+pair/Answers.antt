@@ -93,7 +93,7 @@ read_alone-returns-in-None-clause-lists t c =
 
 pub read_in_place-going-init : goal.read_in_place-going-init
 read_in_place-going-init t c = record {
-  are = none_by c.args.tree.now c.args.displaced _ _ c.in_ok-lists.ensures.old c.in_ok-lists.ensures.new;
+  are = none_by c.args.tree.now c.args.displaced _ _ c.no_lists-lists.ensures.old c.no_lists-lists.ensures.new;
   same = λ e k d l. absurd (omega arith);
 }
 
