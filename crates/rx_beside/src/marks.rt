@@ -74,8 +74,8 @@ fn has_work(instance: &Instance, working: &NumberSet) -> bool {
     }
 }
 
-/// Whether a commit has nothing to do for a node itself that had the one mark and has the other: they are the same, and it is no
-/// instance whose hooks have work in this render, for a commit settles those.
+// Whether a commit has nothing to do for a node itself that had the one mark and has the other: they are the same, and it is no
+// instance whose hooks have work in this render, for a commit settles those.
 pub(crate) fn came_out_same(old: &Mark, new: &Mark, working: &NumberSet) -> bool
     ensures { result ≡ true → mark_seen old.now ≡ mark_seen new.now }
 {
