@@ -1,4 +1,5 @@
 pub mod Along
+pub mod Bits
 pub mod Covering
 pub mod Leading
 pub mod Quiet

@@ -1,3 +1,4 @@
 pub mod Ways
 pub mod Leads
 pub mod Walk
+pub mod WaySets

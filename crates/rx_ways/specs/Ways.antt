@@ -1,18 +1,20 @@
 -- Which instances stand on a way, and what is told of those that do not.
-use Rattle.std.specs.Prelude.{◌≡◌, ℕ, Bool, false, ◌||◌, List, Option, Some, None}
+use Rattle.std.specs.Prelude.{◌≡◌, ℕ, Bool, false, ◌||◌, Option, Some, None}
 use Rattle.rx_susp.specs.Boundary.{hides}
 use Rattle.rx_elem.specs.Trees.{Forest, Mark, Node, child, node, none, of_boundary, of_catcher, of_host, of_instance, plain, vacant}
-use Rattle.rx_meaning.specs.Settled.{includes, number_of}
+use Rattle.rx_meaning.specs.Settled.{number_of}
 use Rattle.commit_laws.specs.Each.{ForEach}
+use Rattle.rx_ways.specs.WaySets.{is_put}
+use Rattle.rx_ways.specs.declared.way_set.WaySet.{WaySet}
 
 -- the numbers of the instances that stand on a way, or all instances
 pub record Ways : Type 0 where
-  pub numbers : List ℕ
+  pub numbers : WaySet
   pub all : Bool
 
 -- an instance stands on a way
 abbrev pub is_way : Ways → ℕ → Bool
-is_way ways n = ways.all || includes ways.numbers n
+is_way ways n = ways.all || is_put ways.numbers n
 
 -- a node is quiet, by its mark: an instance has a number, which is not among these, and a boundary is shown
 abbrev pub IsQuiet : (stirred : ℕ → Bool) → Mark → Type 0

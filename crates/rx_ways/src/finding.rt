@@ -12,8 +12,10 @@ ghost use Rattle.rx_fiber.specs.Subtrees.{IsGathered};
 ghost use Rattle.rx_node.specs.MarkView.{mark_seen};
 ghost use Rattle.rx_ways.specs.Leads.{is_cause, leads};
 ghost use Rattle.rx_ways.specs.Walk.{finds_among, finds_first, hinted, is_cause_at, is_spared_at, number_at, puts_among, puts_first};
+ghost use Rattle.rx_ways.specs.WaySets.{is_put};
 ghost use Rattle.rx_ways.specs.Ways.{CoversIf, IsQuiet, is_way};
 
+use crate::way_set::WaySet;
 use crate::ways::Ways;
 use rx_fiber::{Fiber, Stage};
 use rx_links::{FiberId, FiberTree};
@@ -71,8 +73,8 @@ fn is_spared(fiber: &Fiber, before: &Ways, sent: &Ways) -> bool
 }
 
 // Puts the number of an instance on the ways.
-fn put(stage: &Stage, ways: &mut NumberSet) -> Result<(), AllocError>
-    ensures { OnOk result ((n : ℕ) → holds ways.new n ≡ holds ways.old n || is_numbered_so n (number_at (stage_seen stage.now))) }
+fn put(stage: &Stage, ways: &mut WaySet) -> Result<(), AllocError>
+    ensures { OnOk result ((n : ℕ) → is_put ways.new n ≡ is_put ways.old n || is_numbered_so n (number_at (stage_seen stage.now))) }
 {
     if let Some(number) = number_at(stage) {
         ways.add(number)?;
@@ -88,11 +90,11 @@ fn walk_from(
     stirred: &NumberSet,
     before: &Ways,
     sent: &Ways,
-    ways: &mut NumberSet,
+    ways: &mut WaySet,
 ) -> Result<bool, AllocError>
     requires held { Holds tree.now.current id }
     ensures finds { IfOk result (λ found. found ≡ finds_first (hinted before.now sent.now) (holds stirred.now) (list_from tree.now.current (Some id))) }
-    ensures puts { OnOk result ((n : ℕ) → holds ways.new n ≡ holds ways.old n || puts_first (hinted before.now sent.now) (holds stirred.now) n (list_from tree.now.current (Some id))) }
+    ensures puts { OnOk result ((n : ℕ) → is_put ways.new n ≡ is_put ways.old n || puts_first (hinted before.now sent.now) (holds stirred.now) n (list_from tree.now.current (Some id))) }
 {
     tree.facts();
     let fiber = tree.value(id);
@@ -115,11 +117,11 @@ fn walk(
     stirred: &NumberSet,
     before: &Ways,
     sent: &Ways,
-    ways: &mut NumberSet,
+    ways: &mut WaySet,
 ) -> Result<bool, AllocError>
     requires held { IfSome first (Holds tree.now.current) }
     ensures finds { IfOk result (λ found. found ≡ finds_among (hinted before.now sent.now) (holds stirred.now) (list_from tree.now.current first)) }
-    ensures puts { OnOk result ((n : ℕ) → holds ways.new n ≡ holds ways.old n || puts_among (hinted before.now sent.now) (holds stirred.now) n (list_from tree.now.current first)) }
+    ensures puts { OnOk result ((n : ℕ) → is_put ways.new n ≡ is_put ways.old n || puts_among (hinted before.now sent.now) (holds stirred.now) n (list_from tree.now.current first)) }
 {
     tree.facts();
     let mut found = false;
@@ -138,11 +140,11 @@ fn walk_along(
     stirred: &NumberSet,
     before: &Ways,
     sent: &Ways,
-) -> Result<NumberSet, AllocError>
-    ensures { IfOk result (λ ways. (n : ℕ) → holds ways n ≡ puts_among (hinted before.now sent.now) (holds stirred.now) n tree.now.current) }
+) -> Result<WaySet, AllocError>
+    ensures { IfOk result (λ ways. (n : ℕ) → is_put ways n ≡ puts_among (hinted before.now sent.now) (holds stirred.now) n tree.now.current) }
 {
     tree.facts();
-    let mut ways = NumberSet::new(alloc);
+    let mut ways = WaySet::new(alloc);
     walk(tree, tree.current(), stirred, before, sent, &mut ways)?;
     Ok(ways)
 }
@@ -171,7 +173,7 @@ pub fn find_ways(
     ensures exact { IfOk result (λ w. (x : Option trees.Node) (n : ℕ) → IsTreeOf x tree.now.current → is_way w n ≡ true → leads (holds stirred.now) n x ≡ true) }
 {
     let mut numbers = walk_along(alloc, tree, stirred, before, sent)?;
-    if !stirred.is_subset(&numbers) {
+    if !numbers.has_all(stirred.members()) {
         let everything = Ways::everything(alloc);
         numbers = walk_along(alloc, tree, stirred, &everything, &everything)?;
     }

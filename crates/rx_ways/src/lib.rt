@@ -2,6 +2,7 @@
 #![tactic(auto)]
 
 mod finding;
+mod way_set;
 mod ways;
 
 pub use finding::find_ways;

@@ -2,7 +2,7 @@
 ghost use Rattle.std.specs.Prelude.{◌≡◌, ℕ, true, false};
 ghost use Rattle.rx_ways.specs.Ways.{is_way};
 
-use rx_set::NumberSet;
+use crate::way_set::WaySet;
 use std::alloc::Global;
 use std::marker::Model;
 
@@ -10,7 +10,7 @@ use std::marker::Model;
 /// (React marks them by `childLanes`). If memory runs out for one of them, it is all instances.
 #[derive(Drop)]
 pub struct Ways {
-    pub(crate) numbers: NumberSet,
+    pub(crate) numbers: WaySet,
     pub(crate) all: bool,
 }
 
@@ -28,7 +28,7 @@ impl Ways {
         ensures { (n : ℕ) → is_way result n ≡ false }
     {
         Ways {
-            numbers: NumberSet::new(alloc),
+            numbers: WaySet::new(alloc),
             all: false,
         }
     }
@@ -38,7 +38,7 @@ impl Ways {
         ensures { (n : ℕ) → is_way result n ≡ true }
     {
         Ways {
-            numbers: NumberSet::new(alloc),
+            numbers: WaySet::new(alloc),
             all: true,
         }
     }

@@ -4,6 +4,7 @@ use Rattle.rx_lists.specs.Shapes.{Holds}
 use Rattle.rx_links.specs.Readers.{list_from}
 use Rattle.rx_fiber.proofs.OldReads.{some_held, rest_held}
 use Rattle.rx_ways.specs.Walk.{finds_among, hinted, puts_among}
+use Rattle.rx_ways.specs.WaySets.{is_put}
 use Rattle.rx_ways.proofs.Along.{fewer_behind, found_more, put_more}
 use Rattle.rx_ways.proofs.Standing.{or_joined}
 use Rattle.rx_ways.proofs.finding.+walking.Goals as goal
@@ -28,8 +29,8 @@ walk-siblings-preserved t c =
           ∙ c.siblings.invariant.finds;
       puts = λ n.
           ap (λ b. b || puts_among hint stirred n (list_from current q)) (c.in_ok-found.ensures.puts n)
-          ∙ or_joined (holds c.siblings.ways n) _ (puts_among hint stirred n (list_from current q))
-          ∙ ap (λ b. holds c.siblings.ways n || b) (sym (put_more hint stirred current linked o q i held c.in-Some.is behind n))
+          ∙ or_joined (is_put c.siblings.ways n) _ (puts_among hint stirred n (list_from current q))
+          ∙ ap (λ b. is_put c.siblings.ways n || b) (sym (put_more hint stirred current linked o q i held c.in-Some.is behind n))
           ∙ c.siblings.invariant.puts n;
       within = omega (arith, within, less);
     }

@@ -3,6 +3,7 @@ use Rattle.rx_set.specs.Sets.{holds}
 use Rattle.rx_lists.specs.Shapes.{Holds, size}
 use Rattle.rx_links.specs.Readers.{list_from}
 use Rattle.rx_ways.specs.Walk.{finds_among, hinted, puts_among}
+use Rattle.rx_ways.specs.WaySets.{is_put}
 use Rattle.rx_ways.proofs.finding.+walking.Given as goal
 
 abbrev pub decreases-walk_from : goal.decreases-walk_from
@@ -17,8 +18,8 @@ invariant-walk-siblings l = record {
   inside : IfSome l.next (Holds l.tree.current);
   finds : l.found || finds_among (hinted l.before l.sent) (holds l.stirred) (list_from l.tree.current l.next)
       ≡ finds_among (hinted l.before l.sent) (holds l.stirred) (list_from l.tree.current l.initial.next);
-  puts : (n : ℕ) → holds l.ways n || puts_among (hinted l.before l.sent) (holds l.stirred) n (list_from l.tree.current l.next)
-      ≡ holds l.initial.ways n || puts_among (hinted l.before l.sent) (holds l.stirred) n (list_from l.tree.current l.initial.next);
+  puts : (n : ℕ) → is_put l.ways n || puts_among (hinted l.before l.sent) (holds l.stirred) n (list_from l.tree.current l.next)
+      ≡ is_put l.initial.ways n || puts_among (hinted l.before l.sent) (holds l.stirred) n (list_from l.tree.current l.initial.next);
   within : size (list_from l.tree.current l.next) ≤ size (list_from l.tree.current l.initial.next);
 }
 
