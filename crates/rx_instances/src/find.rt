@@ -23,6 +23,7 @@ use rx_check::Checked;
 use rx_dispatch::name_of;
 use rx_fiber::{Fiber, Stage, old_primary};
 use rx_links::{FiberId, FiberTree};
+use rx_names::same_bytes;
 use rx_node::{Instance, Mark};
 use rx_ways::Ways;
 
@@ -92,7 +93,8 @@ fn look_at(
     }
     match instance_of(fiber) {
         Some(instance) => {
-            let counts = name_of(checked, instance.component) == name.text();
+            let named = name_of(checked, instance.component);
+            let counts = same_bytes(named.as_bytes(), name.text().as_bytes());
             count(id, counts, left)
         }
         None => look_in(checked, tree, tree.first_child(id), name, left),
