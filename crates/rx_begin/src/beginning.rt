@@ -75,7 +75,6 @@ fn caught_before(tree: &FiberTree<Fiber>, at: FiberId, element: &Element) -> Opt
 
 // The place of an error boundary that had caught this value begins over clones of its old fallback.
 fn keep_caught(
-    alloc: Global,
     tree: &mut FiberTree<Fiber>,
     at: FiberId,
     value: Int,
@@ -92,7 +91,7 @@ fn keep_caught(
     tree.facts();
     let stage = Stage::Begun(Mark::Catch(CatchState::Caught { value }));
     let first_old = old_fallback(tree, tree.alternate(at));
-    let first = open_clones(alloc, tree, at, stage, first_old, steady)?;
+    let first = open_clones(tree, at, stage, first_old, steady)?;
     Ok(begun_from(first))
 }
 
@@ -143,7 +142,7 @@ fn begin_caught(
     ensures current { tree.new.current ≡ tree.old.current }
 {
     if place.again {
-        keep_caught(alloc, tree, at, value, place.steady)
+        keep_caught(tree, at, value, place.steady)
     } else {
         match_caught(
             alloc,
@@ -182,7 +181,7 @@ fn begin_node(
     let number = old_host(tree, tree.alternate(at));
     let stage = begun_stage(element, place.origin, number);
     if keeps_children(tree, tree.alternate(at), place.again) {
-        keep_node(alloc, tree, at, stage, place.steady)
+        keep_node(tree, at, stage, place.steady)
     } else {
         open_node(
             alloc,

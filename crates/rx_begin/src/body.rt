@@ -278,7 +278,6 @@ fn is_skipped(
 
 // A component's fiber is begun over clones of its children, as its old instance stands.
 fn keep_body(
-    alloc: Global,
     tree: &mut FiberTree<Fiber>,
     at: FiberId,
     old: Option<Instance>,
@@ -293,7 +292,6 @@ fn keep_body(
 {
     match old {
         Some(instance) => keep_node(
-            alloc,
             tree,
             at,
             Stage::Begun(Mark::Instance(instance)),
@@ -342,7 +340,7 @@ pub(crate) fn begin_component<L: Ledger>(
     tree.place_facts();
     let old = old_instance(tree, tree.alternate(at))?;
     if is_skipped(place.again, &old, scene, hooks, contexts) {
-        let begun = keep_body(alloc, tree, at, old, place.steady)?;
+        let begun = keep_body(tree, at, old, place.steady)?;
         return Ok((begun, false));
     }
     let number = number_of(&old);

@@ -59,21 +59,6 @@ from_listed c linked (Some i) h = let (v, is, f) = linked.list i h in ap (λ x. 
 pub list_elements : (c : Shape Fiber) → IsLinked c → (o : Option ℕ) → IfSome o (Holds c) → map (element_or_null c) (old_fibers (list_from c o)) ≡ old_elements (list_from c o)
 list_elements c linked o h = elements_from c linked 0 (list_from c o) (from_listed c linked o h)
 
--- There is room for clones of a list.
-pub room_for_clones : (t : Trees Fiber) (p : ℕ) (first : Option ℕ) (os : List (Option ℕ)) → IsBareBeside t p first → IfSome first (Holds t.current) → IsLinked t.current
-    → os ≡ old_fibers (list_from t.current first) → HasRoomFor t p os
-room_for_clones t p first os beside held linked is =
-    subst (λ l. HasRoomFor t p l) (sym is)
-    (record {
-      around = beside.around;
-      value = beside.value;
-      old = beside.old;
-      rest = beside.rest;
-      here = beside.here;
-      tops = λ i j h. beside.tops j (fiber_top (list_from t.current first) i j (ap option_flatten h));
-      apart = λ i k j h l. fiber_once (list_from t.current first) i k j (list_tree t.current linked first held) (ap option_flatten h) (ap option_flatten l);
-    })
-
 -- The children that begin next
 
 module _ (c : Shape Fiber) (linked : IsLinked c) (ms : List ℕ) (ws : List (ℕ × ℤ)) where

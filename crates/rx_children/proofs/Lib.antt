@@ -4,7 +4,7 @@ pub mod Making
 pub mod Matched
 pub mod Waiting
 pub mod Cloning
-pub mod Alone
+pub mod Behind
 pub mod Only
 pub mod Nodes
 pub mod Nexts

@@ -53,11 +53,6 @@ slice_drop zero i xs x e = (i, omega arith, e)
 slice_drop (suc n) i [] x e = cc
 slice_drop (suc n) i (y ∷ ys) x e = let (j, l, f) = slice_drop n i ys x e in (suc j, omega arith, f)
 
--- a child of a current fiber is a current one
-kid_held : (c : Shape Fiber) → IsLinked c → (o : Option ℕ) (j : ℕ) → IfSome o (Holds c) → IsTop (kids_under c o) j → Holds c j
-kid_held c linked None j h top = absurd top
-kid_held c linked (Some i) j h top = linked.below i j h (top-held (kids_of c i) j top)
-
 module _ (origin : Origin) (before t : Trees Fiber) (p n : ℕ) (es : List Element) (os : List (Option ℕ)) (room : HasRoomFor before p os) (made_so : HasMadeFrom origin (suc n) before t p es os) (knows : KnowsPlaces t)
     (inside : n < length os) where
   here : t.draft ≡ placed room.around (made p room.value room.old made_so.kids room.rest)
@@ -74,9 +69,6 @@ module _ (origin : Origin) (before t : Trees Fiber) (p n : ℕ) (es : List Eleme
 
   is_top : (j : ℕ) → get_or os n None ≡ Some j → IsTop (kids_under t.current room.old) j
   is_top j e = subst (λ c. IsTop (kids_under c room.old) j) (sym made_so.current) (room.tops n j (old_at j e))
-
-  is_held : IsLinked t.current → (j : ℕ) → get_or os n None ≡ Some j → Holds t.current j
-  is_held linked j e = kid_held t.current linked room.old j at.old_held (is_top j e)
 
   is_unused : (j : ℕ) → get_or os n None ≡ Some j → IsUnused t.draft j
   is_unused j e =
@@ -97,13 +89,6 @@ module _ (origin : Origin) (before t : Trees Fiber) (p n : ℕ) (es : List Eleme
       by_old : (o : Option ℕ) → get_or os n None ≡ o → IfSome o (IsUnused t.draft)
       by_old None e = tt
       by_old (Some j) e = is_unused j e
-
-  pub old_holds : IsLinked t.current → IfSome (get_or os n None) (Holds t.current)
-  old_holds linked = by_old (get_or os n None) refl
-    where
-      by_old : (o : Option ℕ) → get_or os n None ≡ o → IfSome o (Holds t.current)
-      by_old None e = tt
-      by_old (Some j) e = is_held linked j e
 
   -- one more is made
   pub one_more : (after : Trees Fiber) → n < length es → HasAdded origin t after p n (get_or es n elements.null) (get_or os n None) → HasMadeFrom origin n before after p es os
@@ -137,21 +122,6 @@ pub is_fiber : (c : Shape Fiber) (o : Option ℕ) (v : Fiber) (n : ℕ) (e f : E
 is_fiber c o v n e f origin is same anew =
     record { at = ap (λ u. u.place) is; element = ap (λ u. u.element) is ∙ same; stage = ap (λ u. u.stage) is; same = λ cloned. absurd (let q : ⊥ = cc in q) }
 
--- a clone of a current fiber is one fiber more
-pub clone_added : (before after : Trees Fiber) (p n id new : ℕ) (o : Option ℕ) (u v : Fiber) (e : Element) (visible : Bool) → o ≡ Some id → Some u ≡ value_of before.current id → e ≡ u.element → is_present u.element ≡ true
-    → v ≡ record { place = n; element = e; stage = waiting (as_cloned visible); subtree = nothing } → after ≡ record before { draft = grown p new v (Some id) before.draft }
-    → HasAdded (as_cloned visible) before after p n (element_or_null before.current o) o
-clone_added before after p n id new o u v e visible is value same present made_so after_so =
-    subst (λ x. HasAdded (as_cloned visible) before after p n (element_or_null before.current x) x) (sym is)
-    (subst (λ x. HasAdded (as_cloned visible) before after p n x (Some id)) (ap (λ x. option_map_or (λ w. w.element) x elements.null) value)
-    (one new v (null_absent u.element ∙ ap not present)
-    (record {
-      at = ap (λ w. w.place) made_so;
-      element = ap (λ w. w.element) made_so ∙ same;
-      stage = ap (λ w. w.stage) made_so;
-      same = λ cloned. ap (option_map (λ w. w.element)) (sym value);
-    }) after_so))
-
 -- the same when the code counts down
 module _ (origin : Origin) (before t : Trees Fiber) (p m n : ℕ) (es : List Element) (os : List (Option ℕ)) (room : HasRoomFor before p os) (made_so : HasMadeFrom origin m before t p es os) (knows : KnowsPlaces t)
     (next_is : m ≡ suc n) (inside : n < length os) where
@@ -170,22 +140,9 @@ module _ (origin : Origin) (before t : Trees Fiber) (p m n : ℕ) (es : List Ele
   pub place_unused : (o : Option ℕ) → o ≡ get_or os n o → IfSome o (IsUnused t.draft)
   place_unused o e = subst (λ x. IfSome x (IsUnused t.draft)) (sym (old_here o e)) (old_unused origin before t p n es os room from_next knows inside)
 
-  pub place_held : IsLinked t.current → (o : Option ℕ) → o ≡ get_or os n o → IfSome o (Holds t.current)
-  place_held linked o e = subst (λ x. IfSome x (Holds t.current)) (sym (old_here o e)) (old_holds origin before t p n es os room from_next knows inside linked)
-
   pub place_more : n < length es → (e : Element) → e ≡ get_or es n e → (o : Option ℕ) → o ≡ get_or os n o → (after : Trees Fiber) → HasAdded origin t after p n e o
       → HasMadeFrom origin n before after p es os
   place_more within e f o g after added =
       one_more origin before t p n es os room from_next knows inside after within
       (subst (λ x. HasAdded origin t after p n x (get_or os n None)) (f ∙ get_or_default es n e elements.null within)
       (subst (λ x. HasAdded origin t after p n e x) (old_here o g) added))
-
-  -- the same for a clone, whose element is that of its fiber
-  pub place_cloned : es ≡ map (element_or_null before.current) os → (o : Option ℕ) → o ≡ get_or os n o → (after : Trees Fiber) → HasAdded origin t after p n (element_or_null t.current o) o
-      → HasMadeFrom origin n before after p es os
-  place_cloned same o g after added =
-      let long : length es ≡ length os = ap length same ∙ length-map os (element_or_null before.current) in
-      place_more (omega arith) (element_or_null before.current o)
-      (ap (element_or_null before.current) g
-      ∙ (sym (get_or-map (element_or_null before.current) os n o (element_or_null before.current o) inside) ∙ ap (λ l. get_or l n (element_or_null before.current o)) (sym same)))
-      o g after (subst (λ c. HasAdded origin t after p n (element_or_null c o) o) made_so.current added)

@@ -1,4 +1,5 @@
 pub mod Children
+pub mod Clones
 pub mod Nodes
 pub mod Origins
 pub mod PartsView

@@ -17,7 +17,7 @@ use rx_links::{FiberId, FiberTree};
 use std::alloc::{AllocError, Global};
 
 // There are few enough children that each has a place.
-pub(crate) fn count_places(count: usize) -> Result<(), AllocError>
+fn count_places(count: usize) -> Result<(), AllocError>
     ensures { OnOk result (count < 2 ^ 32) }
 {
     match u32::try_from(count) {

@@ -143,7 +143,6 @@ pub fn open_list(
 ///
 /// Only if out of memory, or more children than a list has places. What was made then stays below the fiber.
 pub fn open_clones(
-    alloc: Global,
     tree: &mut FiberTree<Fiber>,
     at: FiberId,
     stage: Stage,
@@ -155,7 +154,7 @@ pub fn open_clones(
     ensures opened { IfOk result (λ first. HasList (as_cloned visible) tree.old tree.new at (stage_seen stage) (old_elements (list_from tree.old.current first_old)) (old_fibers (list_from tree.old.current first_old)) first) }
     ensures current { tree.new.current ≡ tree.old.current }
 {
-    clone_children(alloc, tree, at, first_old, visible)?;
+    clone_children(tree, at, first_old, visible)?;
     tree.place_facts();
     tree.give(at, stage);
     tree.place_facts();
@@ -207,7 +206,6 @@ pub fn open_node(
 ///
 /// Only if out of memory, or more children than a list has places. What was made then stays below the fiber.
 pub fn keep_node(
-    alloc: Global,
     tree: &mut FiberTree<Fiber>,
     at: FiberId,
     stage: Stage,
@@ -221,7 +219,7 @@ pub fn keep_node(
     tree.place_facts();
     tree.facts();
     let first_old = old_primary(tree, tree.alternate(at));
-    let first = open_clones(alloc, tree, at, stage, first_old, steady)?;
+    let first = open_clones(tree, at, stage, first_old, steady)?;
     Ok(begun_from(first))
 }
 

@@ -113,7 +113,7 @@ fn make_listed(
 {
     match given {
         Some(elements) => make_children(alloc, tree, at, elements, first_old, visible, generation),
-        None => clone_children(alloc, tree, at, first_old, visible),
+        None => clone_children(tree, at, first_old, visible),
     }
 }
 
@@ -137,7 +137,7 @@ fn open_listed(
         Some(elements) => open_list(
             alloc, tree, at, stage, elements, first_old, visible, generation,
         ),
-        None => open_clones(alloc, tree, at, stage, first_old, visible),
+        None => open_clones(tree, at, stage, first_old, visible),
     }
 }
 

@@ -1,33 +1,28 @@
-use Rattle.std.proofs.Common.{sym, subst, OnOk}
-use Rattle.rx_links.specs.Readers.{list_from}
-use Rattle.rx_fiber.specs.Fibers.{as_cloned}
-use Rattle.rx_fiber.specs.OldLists.{old_elements, old_fibers}
+use Rattle.std.proofs.Common.{sym, ap, ◌∙◌, subst, ◌≡◌}
+use Rattle.rx_lists.specs.Shapes.{first, Holds}
+use Rattle.rx_links.specs.Readers.{rest_of}
 use Rattle.rx_fiber.proofs.OldReads.{some_held}
-use Rattle.rx_children.specs.Children.{HasMadeFrom}
-use Rattle.rx_children.specs.Nodes.{IsBareBeside}
+use Rattle.rx_children.proofs.Behind.{IsClonedUpTo, none_cloned, all_cloned, can_stand, more_cloned}
 use Rattle.rx_children.proofs.clones.clone_children.Goals as goal
 
-pub clone_from-requires-clause-held : goal.clone_from-requires-clause-held
-clone_from-requires-clause-held c = some_held c.args.tree.now.current c.args.first_old c.in-Some.id c.requires.held c.in-Some.is
+pub cloning-init : goal.cloning-init
+cloning-init c = none_cloned c.args.visible c.args.tree.now c.args.at c.args.first_old c.requires.held
 
-pub clone_from-requires-clause-beside : goal.clone_from-requires-clause-beside
-clone_from-requires-clause-beside c = subst (λ o. IsBareBeside c.args.tree.now c.args.at o) c.in-Some.is c.requires.beside
+pub clone_next-requires-clause-stands : goal.clone_next-requires-clause-stands
+clone_next-requires-clause-stands c =
+    can_stand c.args.visible c.args.tree.now c.cloning.tree c.args.at c.args.first_old c.facts.ensures.linked c.in-Some.id c.cloning.so_far.last c.cloning.so_far.place
+    (subst (λ o. IsClonedUpTo c.args.visible c.args.tree.now c.cloning.tree c.args.at c.args.first_old o c.cloning.so_far.last c.cloning.so_far.place) c.in-Some.is c.cloning.invariant) c.place_facts.ensures c.requires.beside
 
-pub clone_list-requires-clause-beside : goal.clone_list-requires-clause-beside
-clone_list-requires-clause-beside c = subst (λ o. IsBareBeside c.args.tree.now c.args.at o) c.in-None.is c.requires.beside
+pub cloning-preserved : goal.cloning-preserved
+cloning-preserved c =
+    let held = some_held c.args.tree.now.current c.cloning.next c.in-Some.id c.cloning.invariant.held c.in-Some.is in
+    let same : c.clone_next.new.tree.current ≡ c.args.tree.now.current = c.in_ok-so_far.ensures.current ∙ c.cloning.invariant.current in
+    more_cloned c.args.visible c.args.tree.now c.cloning.tree c.args.at c.args.first_old c.facts.ensures.linked c.in-Some.id c.cloning.so_far.last c.cloning.so_far.place
+    (subst (λ o. IsClonedUpTo c.args.visible c.args.tree.now c.cloning.tree c.args.at c.args.first_old o c.cloning.so_far.last c.cloning.so_far.place) c.in-Some.is c.cloning.invariant) c.place_facts.ensures
+    c.clone_next.new.tree c.next_sibling-next.result
+    (c.next_sibling-next.ensures.current (subst (λ s. Holds s c.in-Some.id) (sym same) held) ∙ ap (λ s. first (rest_of s c.in-Some.id)) same)
+    c.in_ok-so_far.so_far.last c.in_ok-so_far.so_far.place c.in_ok-so_far.ensures.gone
 
-pub returns-in-Some-clause-made : goal.returns-in-Some-clause-made
-returns-in-Some-clause-made c =
-    subst
-    (λ o.
-    OnOk c.clone_from.result
-    (HasMadeFrom (as_cloned c.args.visible) 0 c.args.tree.now c.clone_from.new.tree c.args.at (old_elements (list_from c.args.tree.now.current o)) (old_fibers (list_from c.args.tree.now.current o))))
-    (sym c.in-Some.is) c.clone_from.ensures.made
-
-pub returns-in-None-clause-made : goal.returns-in-None-clause-made
-returns-in-None-clause-made c =
-    subst
-    (λ o.
-    OnOk c.clone_list.result
-    (HasMadeFrom (as_cloned c.args.visible) 0 c.args.tree.now c.clone_list.new.tree c.args.at (old_elements (list_from c.args.tree.now.current o)) (old_fibers (list_from c.args.tree.now.current o))))
-    (sym c.in-None.is) c.clone_list.ensures.made
+pub returns-clause-made : goal.returns-clause-made
+returns-clause-made c =
+    all_cloned c.args.visible c.args.tree.now c.cloning.tree c.args.at c.args.first_old c.facts.ensures.linked c.cloning.next c.cloning.so_far.last c.cloning.so_far.place c.requires.held c.cloning.invariant c.in_default.is
