@@ -1,6 +1,6 @@
 -- Clones of an old list are the fibers of its nodes, each for itself.
 use Rattle.std.specs.Prelude.{◌≡◌, ℕ, ℤ, zero, suc, ◌+◌, ◌-◌, Bool, true, false, List, ◌∷◌, ◌++◌, map, Option, Some, None, IfSome}
-use Rattle.std.specs.Option.{option_flatten, option_map_or}
+use Rattle.std.specs.Option.{option_map_or}
 use Rattle.std.specs.List.{zip}
 use Rattle.std.proofs.Common.{refl, sym, ap, subst}
 use Rattle.rx_elem.specs.Elements.{Element}
@@ -11,7 +11,7 @@ use Rattle.rx_elem.specs.Trees as trees
 use Rattle.rx_elem.proofs.SelfMatch.{NoNull, matches_itself}
 use Rattle.rx_lists.specs.Shapes.{Shape, none, fiber, first, Holds}
 use Rattle.rx_lists.specs.Shapes as shapes
-use Rattle.rx_links.specs.Drafts.{Draft, taken, Trees}
+use Rattle.rx_links.specs.Drafts.{Draft, taken}
 use Rattle.rx_links.specs.Readers.{value_in, list_from, IsLinked}
 use Rattle.rx_fiber.specs.Fibers.{Fiber}
 use Rattle.rx_fiber.specs.OldLists.{is_fallback, filled, spread, old_elements, old_fibers}
@@ -20,10 +20,7 @@ use Rattle.rx_fiber.specs.Surround.{AreNext}
 use Rattle.rx_fiber.specs.Surround as surround
 use Rattle.rx_fiber.proofs.OldLists.{IsListIn, list_is, rest_listed, list_begins, spread_gap, spread_node, IsListFor}
 use Rattle.rx_fiber.proofs.Matching.{at_first, rest_in}
-use Rattle.rx_fiber.proofs.OldTops.{fiber_top, fiber_once}
-use Rattle.rx_children.specs.Children.{element_or_null, HasRoomFor}
-use Rattle.rx_children.specs.Nodes.{IsBareBeside}
-use Rattle.rx_children.proofs.Matched.{list_tree}
+use Rattle.rx_children.specs.Children.{element_or_null}
 use Rattle.rx_children.proofs.Waiting.{AreWaiting}
 use Rattle.rx_children.proofs.Waiting as waiting
 

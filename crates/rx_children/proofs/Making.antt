@@ -1,22 +1,19 @@
 -- The fibers of a list are made one by one, from the last to the first.
-use Rattle.std.specs.Prelude.{◌≡◌, ℕ, zero, suc, ◌<◌, ◌≤◌, true, false, not, List, [], ◌∷◌, length, drop, map, slice_get, Bool, Option, Some, None, IfSome, option_map}
-use Rattle.std.specs.Option.{option_map_or}
+use Rattle.std.specs.Prelude.{◌≡◌, ℕ, zero, suc, ◌<◌, ◌≤◌, false, not, List, [], ◌∷◌, length, drop, slice_get, Option, Some, None, IfSome}
 use Rattle.std.proofs.Common.{refl, sym, ap, ◌∙◌, subst, arith, get_or}
-use Rattle.std.proofs.lemmas.List.{drop_all, get_or_default, get_or-map, length-map}
+use Rattle.std.proofs.lemmas.List.{drop_all, get_or_default}
 use Rattle.std.proofs.lemmas.Option.{slice_get-get_or}
 use Rattle.std.proofs.Math.Seq.{drop-cons}
 use Rattle.rx_elem.specs.Elements.{Element, is_present}
 use Rattle.rx_elem.specs.Elements as elements
-use Rattle.rx_lists.specs.Shapes.{Shape, IsTop, Holds}
+use Rattle.rx_lists.specs.Shapes.{Shape, IsTop}
 use Rattle.rx_lists.specs.Shapes as shapes
-use Rattle.rx_lists.proofs.Adopting.{top-held}
-use Rattle.rx_links.specs.Drafts.{Draft, taken, made, Trees, IsMadeList, IsTopUnused, IsOpen, IsUnused, old_kids, kids_of, kids_under, grown}
-use Rattle.rx_links.specs.Readers.{value_of, IsLinked}
+use Rattle.rx_links.specs.Drafts.{Draft, taken, made, Trees, IsMadeList, IsTopUnused, IsOpen, IsUnused, old_kids, kids_under}
 use Rattle.rx_links.specs.Places.{Around, placed, IsAt}
 use Rattle.rx_meaning.specs.Cursor.{is_null}
-use Rattle.rx_fiber.specs.Fibers.{Fiber, as_cloned, waiting, nothing}
+use Rattle.rx_fiber.specs.Fibers.{Fiber, waiting, nothing}
 use Rattle.rx_fiber.specs.declared.stage.Origin.{Origin}
-use Rattle.rx_children.specs.Children.{IsMade, AreMade, no_more, gap, next, element_or_null, HasRoomFor, HasAdded, one, HasMadeFrom}
+use Rattle.rx_children.specs.Children.{IsMade, AreMade, no_more, gap, next, HasRoomFor, HasAdded, one, HasMadeFrom}
 use Rattle.rx_children.specs.Children as children
 
 -- what each made fiber is to the two trees
