@@ -291,12 +291,7 @@ fn keep_body(
     ensures current { tree.new.current ≡ tree.old.current }
 {
     match old {
-        Some(instance) => keep_node(
-            tree,
-            at,
-            Stage::Begun(Mark::Instance(instance)),
-            steady,
-        ),
+        Some(instance) => keep_node(tree, at, Stage::Begun(Mark::Instance(instance)), steady),
         None => unreachable!(),
     }
 }
