@@ -11,7 +11,7 @@ use rx_fiber::{Fiber, Stage, StageChange, Subtree};
 use rx_hook_store::HookStore;
 use rx_instances::{awaited, find_instance, hidden_count, node_count, show_hooks};
 use rx_links::FiberTree;
-use rx_node::{Instance, Mark};
+use rx_node::{Instance, InstanceParts, Mark};
 use rx_report::Report;
 use rx_step::{Dispatch, LaneWord, Path};
 use rx_susp::BoundaryState;
@@ -66,11 +66,16 @@ fn counted(alloc: Global) -> Result<FiberTree<Fiber>, AllocError>
     initials.push(Int::of(0))?;
     let instance = Instance {
         number: Some(1),
-        component: 0,
-        initials: Rc::new(alloc, Ints::new(initials))?,
-        reads: Rc::new(alloc, Vec::new(alloc))?,
-        versions: Rc::new(alloc, Vec::new(alloc))?,
-        effects: Rc::new(alloc, Vec::new(alloc))?,
+        parts: Rc::new(
+            alloc,
+            InstanceParts {
+                component: 0,
+                initials: Rc::new(alloc, Ints::new(initials))?,
+                reads: Rc::new(alloc, Vec::new(alloc))?,
+                versions: Rc::new(alloc, Vec::new(alloc))?,
+                effects: Rc::new(alloc, Vec::new(alloc))?,
+            },
+        )?,
     };
     alone(alloc, Stage::Begun(Mark::Instance(instance)))
 }

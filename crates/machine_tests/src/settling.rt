@@ -8,7 +8,7 @@ use rx_check::check;
 use rx_elem::{Element, ElementKind};
 use rx_hook_store::HookStore;
 use rx_lane::{Lane, Lanes};
-use rx_node::{Instance, Mark, Node};
+use rx_node::{Instance, InstanceParts, Mark, Node};
 use rx_settle::{settle_all, settle_hooks};
 use std::alloc::{AllocError, Global};
 use std::rc::Rc;
@@ -41,11 +41,16 @@ fn first_tree(alloc: Global) -> Result<Node, AllocError>
     initials.push(Int::of(5))?;
     let instance = Instance {
         number: Some(1),
-        component: 0,
-        initials: Rc::new(alloc, Ints::new(initials))?,
-        reads: Rc::new(alloc, Vec::new(alloc))?,
-        versions: Rc::new(alloc, Vec::new(alloc))?,
-        effects: Rc::new(alloc, Vec::new(alloc))?,
+        parts: Rc::new(
+            alloc,
+            InstanceParts {
+                component: 0,
+                initials: Rc::new(alloc, Ints::new(initials))?,
+                reads: Rc::new(alloc, Vec::new(alloc))?,
+                versions: Rc::new(alloc, Vec::new(alloc))?,
+                effects: Rc::new(alloc, Vec::new(alloc))?,
+            },
+        )?,
     };
     let app = ElementKind::Comp(0, None, Ints::new(Vec::new(alloc)), Vec::new(alloc));
     let element = Element::new(alloc, app)?;

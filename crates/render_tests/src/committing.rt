@@ -12,7 +12,7 @@ use rx_commit::{Shown, deferral};
 use rx_elem::{EffectRecord, Element, ElementKind};
 use rx_host_ops::hosts;
 use rx_lane::{Lane, Lanes};
-use rx_node::{Instance, Mark, Node};
+use rx_node::{Instance, InstanceParts, Mark, Node};
 use rx_pruned::Beside;
 use rx_report::Report;
 use std::alloc::{AllocError, Global};
@@ -34,11 +34,16 @@ fn effects(alloc: Global) -> Result<Vec<EffectRecord>, AllocError> {
 fn instance(alloc: Global) -> Result<Instance, AllocError> {
     Ok(Instance {
         number: Some(1),
-        component: 0,
-        initials: Rc::new(alloc, Ints::new(Vec::new(alloc)))?,
-        reads: Rc::new(alloc, Vec::new(alloc))?,
-        versions: Rc::new(alloc, Vec::new(alloc))?,
-        effects: Rc::new(alloc, effects(alloc)?)?,
+        parts: Rc::new(
+            alloc,
+            InstanceParts {
+                component: 0,
+                initials: Rc::new(alloc, Ints::new(Vec::new(alloc)))?,
+                reads: Rc::new(alloc, Vec::new(alloc))?,
+                versions: Rc::new(alloc, Vec::new(alloc))?,
+                effects: Rc::new(alloc, effects(alloc)?)?,
+            },
+        )?,
     })
 }
 

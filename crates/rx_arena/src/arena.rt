@@ -74,6 +74,7 @@ impl<F> Arena<F> {
 
     /// A new node with these links and no child, for which room was reserved. It and the old one, if any, are alternates: so
     /// far no alternate link leads there.
+    #[inline(always)]
     pub fn alloc_linked(
         &mut self,
         value: F,

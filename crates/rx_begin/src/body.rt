@@ -38,7 +38,7 @@ use rx_eval::{Body, Evaluator, Inputs, eval_body};
 use rx_fiber::{Fiber, Stage};
 use rx_hook_store::HookStore;
 use rx_links::{FiberId, FiberTree};
-use rx_node::{Instance, Mark};
+use rx_node::{Instance, InstanceParts, Mark};
 use std::alloc::{AllocError, Global};
 use std::rc::Rc;
 use std::sync::ledger::Ledger;
@@ -138,17 +138,17 @@ fn body_at<L: Ledger>(
     )
 }
 
-// What an instance has read in a render, shared with its next one. Most read nothing of a kind, before and after: then what was
-// kept before is handed on. (Effects are kept anew: by their handle a commit knows whether an instance was rendered anew.)
+// What an evaluation of an instance left of a kind, for its next parts. Most left nothing, before and after: then what was
+// kept before is handed on.
 fn shared<T: Drop>(
     alloc: Global,
     kept: Vec<T>,
-    before: Rc<Vec<T>>,
+    before: &Rc<Vec<T>>,
 ) -> Result<Rc<Vec<T>>, AllocError>
     ensures { IfOk result (λ r. r.value.items ≡ kept.items) }
 {
     if kept.is_empty() && before.is_empty() {
-        return Ok(before);
+        return before.clone();
     }
     Ok(Rc::new(alloc, kept)?)
 }
@@ -168,19 +168,29 @@ fn instance_after(
     match old {
         Some(old) => Ok(Instance {
             number: old.number,
-            component,
-            initials: old.initials,
-            reads: shared(alloc, reads, old.reads)?,
-            versions: shared(alloc, versions, old.versions)?,
-            effects: Rc::new(alloc, effects)?,
+            parts: Rc::new(
+                alloc,
+                InstanceParts {
+                    component,
+                    initials: old.parts.initials.clone()?,
+                    reads: shared(alloc, reads, &old.parts.reads)?,
+                    versions: shared(alloc, versions, &old.parts.versions)?,
+                    effects: shared(alloc, effects, &old.parts.effects)?,
+                },
+            )?,
         }),
         None => Ok(Instance {
             number: None,
-            component,
-            initials: Rc::new(alloc, initials)?,
-            reads: Rc::new(alloc, reads)?,
-            versions: Rc::new(alloc, versions)?,
-            effects: Rc::new(alloc, effects)?,
+            parts: Rc::new(
+                alloc,
+                InstanceParts {
+                    component,
+                    initials: Rc::new(alloc, initials)?,
+                    reads: Rc::new(alloc, reads)?,
+                    versions: Rc::new(alloc, versions)?,
+                    effects: Rc::new(alloc, effects)?,
+                },
+            )?,
         }),
     }
 }

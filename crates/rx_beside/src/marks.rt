@@ -5,7 +5,7 @@ ghost use Rattle.rx_node.specs.MarkView.{instance_seen, mark_seen};
 use rx_base::Ints;
 use rx_catch::CatchState;
 use rx_elem::{ContextRead, EffectRecord, VersionRead};
-use rx_node::{Instance, Mark};
+use rx_node::{Instance, InstanceParts, Mark};
 use rx_set::NumberSet;
 use rx_susp::BoundaryState;
 
@@ -54,16 +54,26 @@ fn are_same_effects(old: &[EffectRecord], new: &[EffectRecord]) -> bool
     true
 }
 
-// Whether an instance that was rendered anew came out as it was.
-fn is_same_instance(old: &Instance, new: &Instance) -> bool
-    ensures { result ≡ true → instance_seen old.now ≡ instance_seen new.now }
+// Whether an evaluation left the same as the one before.
+fn are_same_parts(old: &InstanceParts, new: &InstanceParts) -> bool
+    ensures component { result ≡ true → old.now.component ≡ new.now.component }
+    ensures effects { result ≡ true → old.now.effects.value.items ≡ new.now.effects.value.items }
+    ensures reads { result ≡ true → old.now.reads.value.items ≡ new.now.reads.value.items }
+    ensures versions { result ≡ true → old.now.versions.value.items ≡ new.now.versions.value.items }
+    ensures initials { result ≡ true → old.now.initials.value ≡ new.now.initials.value }
 {
-    old.number == new.number
-        && old.component == new.component
+    old.component == new.component
         && are_same_effects(&old.effects, &new.effects)
         && are_same_reads(&old.reads, &new.reads)
         && are_same_versions(&old.versions, &new.versions)
         && are_same(&old.initials, &new.initials)
+}
+
+// Whether an instance that was rendered anew came out as it was.
+fn is_same_instance(old: &Instance, new: &Instance) -> bool
+    ensures { result ≡ true → instance_seen old.now ≡ instance_seen new.now }
+{
+    old.number == new.number && are_same_parts(&old.parts, &new.parts)
 }
 
 // Whether the hooks of an instance have work in this render, or it is new.

@@ -52,13 +52,13 @@ fn goes_on(old: &Mark, new: &Mark) -> bool
         && host_number(old) == host_number(new)
 }
 
-// Whether an instance stands as it did, and was not rendered anew: it has the list of effects itself that it had.
+// Whether an instance stands as it did, and was not rendered anew: it has the parts themselves that it had.
 fn is_untouched(old: &Mark, new: &Mark) -> bool {
     let Mark::Instance(was) = old else {
         return false;
     };
     match new {
-        Mark::Instance(is) => Rc::ptr_eq(&was.effects, &is.effects),
+        Mark::Instance(is) => Rc::ptr_eq(&was.parts, &is.parts),
         _ => false,
     }
 }

@@ -58,7 +58,8 @@ fn refreshed(reads: &[VersionRead], versions: &[u64]) -> bool
 pub fn read_another(instance: &Instance, scene: &Scene, contexts: &[Int]) -> bool
     ensures { result ≡ read_another scene.now contexts.now (instance_seen instance.now) }
 {
-    read_anew(&instance.reads, contexts) || refreshed(&instance.versions, scene.versions)
+    read_anew(&instance.parts.reads, contexts)
+        || refreshed(&instance.parts.versions, scene.versions)
 }
 
 /// Whether no instance at or below the node of a current fiber reads a context, what a hidden boundary below keeps included, by

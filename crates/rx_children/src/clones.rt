@@ -30,6 +30,7 @@ fn place_behind(place: u32) -> Result<u32, AllocError>
 }
 
 // Makes a child for a current fiber right behind the one made last, or the first child if there is none.
+#[inline(always)]
 fn child_behind(
     tree: &mut FiberTree<Fiber>,
     at: FiberId,
@@ -49,6 +50,7 @@ fn child_behind(
 
 // Goes on with a current fiber: its clone is made behind the one made last, with a copy of its element. That of a fallback stands in
 // no place, and `null` has no clone.
+#[inline(always)]
 fn clone_next(
     tree: &mut FiberTree<Fiber>,
     at: FiberId,
@@ -94,6 +96,7 @@ fn clone_next(
 /// # Errors
 ///
 /// Only if out of memory, or more children than a list has places. What was made then stays below the fiber.
+#[inline(always)]
 pub fn clone_children(
     tree: &mut FiberTree<Fiber>,
     at: FiberId,

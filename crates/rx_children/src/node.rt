@@ -142,6 +142,7 @@ pub fn open_list(
 /// # Errors
 ///
 /// Only if out of memory, or more children than a list has places. What was made then stays below the fiber.
+#[inline(always)]
 pub fn open_clones(
     tree: &mut FiberTree<Fiber>,
     at: FiberId,
@@ -205,6 +206,7 @@ pub fn open_node(
 /// # Errors
 ///
 /// Only if out of memory, or more children than a list has places. What was made then stays below the fiber.
+#[inline(always)]
 pub fn keep_node(
     tree: &mut FiberTree<Fiber>,
     at: FiberId,

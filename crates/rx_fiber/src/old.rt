@@ -34,6 +34,7 @@ pub fn hides(stage: &Stage) -> bool
 }
 
 /// Whether a fiber of this stage is that of a boundary that shows its fallback: it is hidden, or has caught a value.
+#[inline(always)]
 pub fn falls(stage: &Stage) -> bool
     ensures { result ≡ falls_in (stage_seen stage.now) }
 {
@@ -44,6 +45,7 @@ pub fn falls(stage: &Stage) -> bool
 }
 
 // Whether a list begins with the fiber of a fallback.
+#[inline(always)]
 fn begins_fallback(tree: &FiberTree<Fiber>, link: Option<FiberId>) -> bool
     requires { IfSome link (Holds tree.now.current) }
     ensures { result ≡ begins_fallback (list_from tree.now.current link) }
@@ -57,6 +59,7 @@ fn begins_fallback(tree: &FiberTree<Fiber>, link: Option<FiberId>) -> bool
 
 /// The first child of an old node, by its current fiber; of a boundary, the first of its primary, and none if it shows its
 /// fallback and keeps none.
+#[inline(always)]
 pub fn old_primary(tree: &FiberTree<Fiber>, old: Option<FiberId>) -> Option<FiberId>
     requires { IfSome old (Holds tree.now.current) }
     ensures held { IfSome result (Holds tree.now.current) }

@@ -51,8 +51,8 @@ pub(crate) fn own_subtree(stage: &Stage) -> Subtree
 {
     match stage {
         Stage::Begun(Mark::Instance(instance)) => Subtree {
-            reads: !instance.reads.is_empty(),
-            uses: !instance.versions.is_empty(),
+            reads: !instance.parts.reads.is_empty(),
+            uses: !instance.parts.versions.is_empty(),
             hides: false,
             instances: true,
         },

@@ -7,7 +7,7 @@ ghost use Rattle.rx_fresh.specs.Seeing.{number_in};
 
 use rx_base::Ints;
 use rx_elem::{ContextRead, EffectRecord, VersionRead};
-use rx_node::{Instance, Mark, Node};
+use rx_node::{Instance, InstanceParts, Mark, Node};
 use std::alloc::{AllocError, Global};
 use std::rc::Rc;
 
@@ -34,27 +34,33 @@ pub(crate) fn number_of(instance: &Option<Instance>) -> Option<u64>
     }
 }
 
-// An instance keeps its number and its initial values (react.dev, State as a Snapshot).
+// An instance keeps its number and its initial values (react.dev, State as a Snapshot). Fails only if out of memory.
 pub(crate) fn instance_after(
+    alloc: Global,
     component: u32,
     old: Option<Instance>,
     initials: Rc<Ints>,
     reads: Rc<Vec<ContextRead>>,
     versions: Rc<Vec<VersionRead>>,
     effects: Rc<Vec<EffectRecord>>,
-) -> Instance
-    ensures { instance_seen result ≡ instance_after component (option_map instance_seen old) initials.value reads.value.items versions.value.items effects.value.items }
+) -> Result<Instance, AllocError>
+    ensures { IfOk result (λ i. instance_seen i ≡ instance_after component (option_map instance_seen old) initials.value reads.value.items versions.value.items effects.value.items) }
 {
     let (number, initials) = match old {
-        Some(old) => (old.number, old.initials),
+        Some(old) => (old.number, old.parts.initials.clone()?),
         None => (None, initials),
     };
-    Instance {
+    Ok(Instance {
         number,
-        component,
-        initials,
-        reads,
-        versions,
-        effects,
-    }
+        parts: Rc::new(
+            alloc,
+            InstanceParts {
+                component,
+                initials,
+                reads,
+                versions,
+                effects,
+            },
+        )?,
+    })
 }

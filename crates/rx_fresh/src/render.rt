@@ -152,7 +152,9 @@ fn render_component<L: Ledger>(
                 reads,
                 versions,
             } = ready;
-            let instance = instance_after(component, was, initials, reads, versions, effects);
+            let instance = instance_after(
+                alloc, component, was, initials, reads, versions, effects,
+            )?;
             let mark = Mark::Instance(instance);
             let old = children_if(old);
             render_node(

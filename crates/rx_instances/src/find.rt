@@ -52,7 +52,7 @@ fn told(id: FiberId, fiber: &Fiber) -> Option<Found>
     let instance = instance_of(fiber)?;
     Some(Found {
         number: instance.number?,
-        component: instance.component,
+        component: instance.parts.component,
         fiber: id,
     })
 }
@@ -93,7 +93,7 @@ fn look_at(
     }
     match instance_of(fiber) {
         Some(instance) => {
-            let named = name_of(checked, instance.component);
+            let named = name_of(checked, instance.parts.component);
             let counts = same_bytes(named.as_bytes(), name.text().as_bytes());
             count(id, counts, left)
         }

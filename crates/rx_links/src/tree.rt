@@ -77,6 +77,7 @@ impl<F> FiberTree<F> {
 
     /// Makes a first child of a made fiber: the alternate of one of the children that the fiber's own alternate has, or a new
     /// one. So the children of a fiber are made from the last to the first, in any order among the old ones.
+    #[inline(always)]
     pub fn child(
         &mut self,
         parent: FiberId,
@@ -99,6 +100,7 @@ impl<F> FiberTree<F> {
 
     /// Makes the sibling right behind a made fiber: the alternate of a fiber of the old list beside which that one's list was
     /// made, or a new one. So a boundary that keeps its primary content gets the fiber of its fallback.
+    #[inline(always)]
     pub fn child_behind(
         &mut self,
         sibling: FiberId,
@@ -121,6 +123,7 @@ impl<F> FiberTree<F> {
 
     /// Takes over the children that the alternate of a made fiber has, as they stand, if it has none of its own: React's
     /// bailout. They stay fibers of the current tree and are in both.
+    #[inline(always)]
     pub fn take_over(&mut self, id: FiberId)
         requires { IsBare self.old.draft id }
         ensures { self.new ≡ record self.old { draft = taking id (old_kids self.old id) self.old.draft } }
@@ -165,6 +168,7 @@ impl<F> FiberTree<F> {
     }
 
     /// Gives something to the value of a made fiber, in place.
+    #[inline(always)]
     pub fn give<L>(&mut self, id: FiberId, what: L)
     where
         F: Give<L>,
@@ -206,6 +210,7 @@ impl<F> FiberTree<F> {
     }
 
     /// Marks a made fiber alone.
+    #[inline(always)]
     pub fn mark_made<L>(&mut self, id: FiberId, by: &L)
     where
         F: Mark<L>,
@@ -248,6 +253,7 @@ impl<F> FiberTree<F> {
     }
 
     /// The value of a fiber.
+    #[inline(always)]
     pub fn value(&self, id: FiberId) -> &F
         requires { IsIn self.now id }
         ensures current { Holds self.now.current id → Some result.now ≡ value_of self.now.current id }
@@ -257,6 +263,7 @@ impl<F> FiberTree<F> {
     }
 
     /// The first child of a fiber.
+    #[inline(always)]
     pub fn first_child(&self, id: FiberId) -> Option<FiberId>
         requires { IsIn self.now id }
         ensures current { Holds self.now.current id → result ≡ first (kids_of self.now.current id) }
@@ -266,6 +273,7 @@ impl<F> FiberTree<F> {
     }
 
     /// The next sibling of a fiber.
+    #[inline(always)]
     pub fn next_sibling(&self, id: FiberId) -> Option<FiberId>
         requires { IsIn self.now id }
         ensures current { Holds self.now.current id → result ≡ first (rest_of self.now.current id) }
@@ -275,6 +283,7 @@ impl<F> FiberTree<F> {
     }
 
     /// The parent of a fiber. Of a current one it is the current parent, even if the fiber was taken over.
+    #[inline(always)]
     pub fn parent(&self, id: FiberId) -> Option<FiberId>
         requires { IsIn self.now id }
         ensures current { Holds self.now.current id → result ≡ parent_of self.now.current id }
@@ -284,6 +293,7 @@ impl<F> FiberTree<F> {
     }
 
     /// The alternate of a fiber: the one that was made for a current fiber, or the current one that a made fiber is for.
+    #[inline(always)]
     pub fn alternate(&self, id: FiberId) -> Option<FiberId>
         requires { IsIn self.now id }
         ensures current { Holds self.now.current id → result ≡ clone_of self.now.draft id }

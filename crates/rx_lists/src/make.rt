@@ -7,6 +7,7 @@ ghost use Rattle.rx_lists.specs.Changes.{IsAlone, Grows, Inserts, Adds};
 use rx_arena::{Arena, FiberId};
 
 /// A node that stands alone, the alternate of the old one.
+#[inline(always)]
 pub fn make_root<F>(nodes: &mut Arena<F>, old: Option<FiberId>, value: F) -> FiberId
     requires room { HasRoomFor nodes.old 1 }
     requires old_live { IfSome old (IsLive nodes.old) }
@@ -17,6 +18,7 @@ pub fn make_root<F>(nodes: &mut Arena<F>, old: Option<FiberId>, value: F) -> Fib
 }
 
 /// A first child of a node, the alternate of the old one.
+#[inline(always)]
 pub fn make_child<F>(
     nodes: &mut Arena<F>,
     parent: FiberId,
@@ -37,6 +39,7 @@ pub fn make_child<F>(
 }
 
 /// The sibling right behind a node, the alternate of the old one.
+#[inline(always)]
 pub fn make_behind<F>(
     nodes: &mut Arena<F>,
     sibling: FiberId,

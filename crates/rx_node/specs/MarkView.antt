@@ -10,11 +10,11 @@ abbrev pub instance_seen : Instance → trees.Instance
 instance_seen i =
     record {
       number = i.number;
-      component = i.component;
-      initials = i.initials.value;
-      reads = i.reads.value.items;
-      versions = i.versions.value.items;
-      effects = i.effects.value.items;
+      component = i.parts.value.component;
+      initials = i.parts.value.initials.value;
+      reads = i.parts.value.reads.value.items;
+      versions = i.parts.value.versions.value.items;
+      effects = i.parts.value.effects.value.items;
     }
 
 -- what a node has beside its element and its children

@@ -4,5 +4,5 @@
 mod mark;
 mod node;
 
-pub use mark::{Instance, Mark};
+pub use mark::{Instance, InstanceParts, Mark};
 pub use node::Node;

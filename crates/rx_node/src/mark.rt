@@ -12,17 +12,23 @@ use rx_susp::BoundaryState;
 use std::alloc::AllocError;
 use std::rc::Rc;
 
-/// What is kept of a component's instance (react.dev, State as a Snapshot): its number, from its first commit on; its
-/// component, by its number in the order of the text; the initial values of its hooks; the contexts and the versions of resources that
-/// it read; and its effects. What does not change from one render to the next is shared by the trees of both.
+/// What its last evaluation left of a component's instance: its component, by its number in the order of the text; the initial
+/// values of its hooks; the contexts and the versions of resources that it read; and its effects.
 #[derive(Drop)]
-pub struct Instance {
-    pub number: Option<u64>,
+pub struct InstanceParts {
     pub component: u32,
     pub initials: Rc<Ints>,
     pub reads: Rc<Vec<ContextRead>>,
     pub versions: Rc<Vec<VersionRead>>,
     pub effects: Rc<Vec<EffectRecord>>,
+}
+
+/// What is kept of a component's instance (react.dev, State as a Snapshot): its number, from its first commit on, and what its last
+/// evaluation left, which the trees of all renders share until the next one.
+#[derive(Drop)]
+pub struct Instance {
+    pub number: Option<u64>,
+    pub parts: Rc<InstanceParts>,
 }
 
 /// What a node has beside its element and its children.
@@ -40,7 +46,7 @@ pub enum Mark {
 }
 
 impl Instance {
-    /// The same instance, by one handle more of each of its parts.
+    /// The same instance, by one handle more of its parts.
     ///
     /// # Errors
     ///
@@ -50,11 +56,7 @@ impl Instance {
     {
         Ok(Instance {
             number: self.number,
-            component: self.component,
-            initials: self.initials.clone()?,
-            reads: self.reads.clone()?,
-            versions: self.versions.clone()?,
-            effects: self.effects.clone()?,
+            parts: self.parts.clone()?,
         })
     }
 }
@@ -137,7 +139,7 @@ impl Mark {
         ensures { result.now ≡ effects_in (mark_seen self.now) }
     {
         match self {
-            Mark::Instance(instance) => &instance.effects,
+            Mark::Instance(instance) => &instance.parts.effects,
             Mark::Host(_) | Mark::Boundary(_) | Mark::Catch(_) | Mark::Plain => &[],
         }
     }

@@ -91,10 +91,10 @@ impl Mounted {
     ) -> Result<Mounted, AllocError>
         ensures { IfOk result (λ m. (a : spots.Around) → a.owner ≡ owner → a.visible ≡ visible → Some m ≡ mounted_as a (record (instance_seen instance.now) { number = Some number })) }
     {
-        let initials = instance.initials.clone()?;
+        let initials = instance.parts.initials.clone()?;
         Ok(Mounted {
             number,
-            component: instance.component,
+            component: instance.parts.component,
             initials,
             owner,
             visible,

@@ -2,7 +2,7 @@
 use rx_base::{Ints, Str};
 use rx_changes::changes_between;
 use rx_elem::{EffectRecord, Element, ElementKind};
-use rx_node::{Instance, Mark, Node};
+use rx_node::{Instance, InstanceParts, Mark, Node};
 use std::alloc::{AllocError, Global};
 use std::rc::Rc;
 use std::test::Fail;
@@ -18,11 +18,16 @@ fn instance(alloc: Global) -> Result<Instance, AllocError> {
     }
     Ok(Instance {
         number: Some(1),
-        component: 0,
-        initials: Rc::new(alloc, Ints::new(Vec::new(alloc)))?,
-        reads: Rc::new(alloc, Vec::new(alloc))?,
-        versions: Rc::new(alloc, Vec::new(alloc))?,
-        effects: Rc::new(alloc, effects)?,
+        parts: Rc::new(
+            alloc,
+            InstanceParts {
+                component: 0,
+                initials: Rc::new(alloc, Ints::new(Vec::new(alloc)))?,
+                reads: Rc::new(alloc, Vec::new(alloc))?,
+                versions: Rc::new(alloc, Vec::new(alloc))?,
+                effects: Rc::new(alloc, effects)?,
+            },
+        )?,
     })
 }
 

@@ -1,7 +1,7 @@
 // A node that is made, read and copied.
 use rx_base::Ints;
 use rx_elem::{Element, ElementKind};
-use rx_node::{Instance, Mark, Node};
+use rx_node::{Instance, InstanceParts, Mark, Node};
 use std::alloc::AllocError;
 use std::rc::Rc;
 
@@ -10,11 +10,16 @@ fn copies_a_mark(rt: HostRuntime) -> Result<(), AllocError> {
     let alloc = rt.alloc();
     let instance = Instance {
         number: Some(7),
-        component: 0,
-        initials: Rc::new(alloc, Ints::new(Vec::new(alloc)))?,
-        reads: Rc::new(alloc, Vec::new(alloc))?,
-        versions: Rc::new(alloc, Vec::new(alloc))?,
-        effects: Rc::new(alloc, Vec::new(alloc))?,
+        parts: Rc::new(
+            alloc,
+            InstanceParts {
+                component: 0,
+                initials: Rc::new(alloc, Ints::new(Vec::new(alloc)))?,
+                reads: Rc::new(alloc, Vec::new(alloc))?,
+                versions: Rc::new(alloc, Vec::new(alloc))?,
+                effects: Rc::new(alloc, Vec::new(alloc))?,
+            },
+        )?,
     };
     let number = instance.copy()?.number;
     assert_eq!(rt; number, Some(7));

@@ -1,7 +1,7 @@
 // A boundary that keeps an instance, read.
 use rx_base::{Awaits, Ints};
 use rx_elem::{Element, ElementKind};
-use rx_node::{Instance, Mark, Node};
+use rx_node::{Instance, InstanceParts, Mark, Node};
 use rx_spots::{awaited, hidden_count, mounted, node_count};
 use rx_susp::BoundaryState;
 use std::alloc::{AllocError, Global};
@@ -11,11 +11,16 @@ use std::test::Fail;
 fn kept(alloc: Global) -> Result<Node, AllocError> {
     let instance = Instance {
         number: Some(7),
-        component: 2,
-        initials: Rc::new(alloc, Ints::new(Vec::new(alloc)))?,
-        reads: Rc::new(alloc, Vec::new(alloc))?,
-        versions: Rc::new(alloc, Vec::new(alloc))?,
-        effects: Rc::new(alloc, Vec::new(alloc))?,
+        parts: Rc::new(
+            alloc,
+            InstanceParts {
+                component: 2,
+                initials: Rc::new(alloc, Ints::new(Vec::new(alloc)))?,
+                reads: Rc::new(alloc, Vec::new(alloc))?,
+                versions: Rc::new(alloc, Vec::new(alloc))?,
+                effects: Rc::new(alloc, Vec::new(alloc))?,
+            },
+        )?,
     };
     let element = Element::new(alloc, ElementKind::Null)?;
     let mark = Mark::Instance(instance);
