@@ -372,7 +372,7 @@ pub fn begin<L: Ledger>(
         take_node(tree, at)?;
         return Ok((Begun::Taken, false));
     }
-    let steady = is_steady(tree, at);
+    let steady = is_steady(tree, at, again);
     let kept = keeps_children(tree, tree.alternate(at), again);
     let generation = generation_below(
         component,

@@ -1,6 +1,7 @@
 // What is known of a place's fiber beside the current one, and whether it takes the old children over.
 ghost use Rattle.std.specs.Prelude.{◌≡◌, ◌&&◌, ℕ, true, false, not, Some, IfSome, IsSome, option_and_then};
 ghost use Rattle.std.specs.Option.{option_map_or};
+ghost use Rattle.rx_elem.specs.Elements.{kind_of, same_kind};
 ghost use Rattle.rx_elem.specs.Trees.{Node, instance_in, is_hidden};
 ghost use Rattle.rx_ctx.specs.Contexts.{values_at};
 ghost use Rattle.rx_lists.specs.Shapes.{Holds};
@@ -107,10 +108,24 @@ pub fn gives_another(tree: &FiberTree<Fiber>, at: FiberId, element: &Element) ->
     !same_given(given_in(element), gave(tree, at))
 }
 
+// Whether an element is of the kind of the current fiber's. They are not compared if it is known to be that one (`again`).
+fn is_of_kind(again: bool, element: &Element, current: &Element) -> bool
+    requires { again ≡ true → element.now ≡ current.now }
+    ensures { result ≡ same_kind (kind_of element.now) (kind_of current.now) }
+{
+    if again && element.is_present() {
+        true
+    } else {
+        element.is_same_kind(current)
+    }
+}
+
 /// Whether a place is steady: its current fiber is shown, is of the kind of its element, and hides nothing. Then the children of
-/// that one are shown, and the children of the place stand below providers of the same contexts.
-pub fn is_steady(tree: &FiberTree<Fiber>, at: FiberId) -> bool
-    requires { IsBareAt tree.now at }
+/// that one are shown, and the children of the place stand below providers of the same contexts. Kinds are not compared if the element
+/// is known to be that of the current fiber (`again`).
+pub fn is_steady(tree: &FiberTree<Fiber>, at: FiberId, again: bool) -> bool
+    requires bare { IsBareAt tree.now at }
+    requires again { (v : fibers.Fiber) → Some v ≡ made_value_of tree.now.draft at → again ≡ true → IsElementOf tree.now.current (old_of tree.now.draft at) v.element }
     ensures { (v : fibers.Fiber) → Some v ≡ made_value_of tree.now.draft at → TellsSteady tree.now.current (old_of tree.now.draft at) v result }
 {
     tree.place_facts();
@@ -121,7 +136,7 @@ pub fn is_steady(tree: &FiberTree<Fiber>, at: FiberId) -> bool
             let current = tree.value(old);
             fiber.is_visible()
                 && !hides(current.stage())
-                && fiber.element().is_same_kind(current.element())
+                && is_of_kind(again, fiber.element(), current.element())
         }
         None => false,
     }

@@ -119,6 +119,9 @@ returns-in-Some-clause-news g c = if_ok c.begin_component.result _ _ (λ b own i
 pub is_as_before-again-requires-clause-clone : goal.is_as_before-again-requires-clause-clone
 is_as_before-again-requires-clause-clone g c = place_clone _ _ c.args.tree.now c.args.contexts.now c.args.at c.place_facts.ensures c.requires.place
 
+pub is_steady-steady-requires-clause-again : goal.is_steady-steady-requires-clause-again
+is_steady-steady-requires-clause-again g c v here so = ((c.is_as_before-again.ensures v here).0 so).same
+
 pub keeps_children-kept-requires : goal.keeps_children-kept-requires
 keeps_children-kept-requires g c =
     place_held _ _ c.args.tree.now c.args.contexts.now c.args.at c.place_facts.ensures c.requires.place c.alternate.result (c.alternate.ensures.made (made_at _ _ _ _ _ c.place_facts.ensures c.requires.place))
