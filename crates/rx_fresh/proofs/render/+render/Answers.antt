@@ -122,17 +122,17 @@ render_component-render_node-requires g t c κs sub = (
   ),
 )
 
-pub render_component-returns-in-Ready-clause-place : goal.render_component-returns-in-Ready-clause-place
-render_component-returns-in-Ready-clause-place g t c =
+pub render_component-returns-in_ok-instance-in-Ready-clause-place : goal.render_component-returns-in_ok-instance-in-Ready-clause-place
+render_component-returns-in_ok-instance-in-Ready-clause-place g t c =
     IfOk-weaker c.render_node.result _ _ (λ x h s is gives.
     h s is (gives_trees c.args.shot.now s (kept_hooks c.args.hooks.now) (kept_hooks c.body_at.new.hooks) is c.body_at.ensures.goes (forest c.children_if-old.result.now) (gives_children s (kept_hooks c.args.hooks.now) (option_copied c.args.old) _ c.children_if-old.ensures gives))
-    ∙ (λ i. over c.args.element.now (of_instance (c.instance_after-instance.ensures i)) (render_list (rendered c.args.depth s c.args.contexts.now) ((c.deref-in-Ready.ensures.value ∙ ap (λ v. v.items) c.deref.ensures) i) (c.children_if-old.ensures i)))
+    ∙ (λ i. over c.args.element.now (of_instance (c.in_ok-instance-in-Ready.ensures i)) (render_list (rendered c.args.depth s c.args.contexts.now) ((c.deref-in-Ready.ensures.value ∙ ap (λ v. v.items) c.deref.ensures) i) (c.children_if-old.ensures i)))
     ∙ ap (λ o. over c.args.element.now (of_instance (instance_after c.args.component o c.in-Ready.ready.initials.value c.in-Ready.ready.reads.value.items c.in-Ready.ready.versions.value.items c.in-Ready.ready.effects.value.items)) (render_list (rendered c.args.depth s c.args.contexts.now) c.in-Ready.ready.elements.value.items (children_if (option_copied c.args.old)))) c.in_ok-was.ensures
     ∙ component_ready s c.args.contexts.now c.args.component c.args.props.now (gathered c.args.children.now) (option_copied c.args.old) (rendered c.args.depth s) c.args.element.now _ (given_seen c.in_ok-body.body) (c.in_ok-body.ensures.body s (old_instance (option_copied c.args.old)) (gathered c.args.children.now) is (sym (c.number_of-number.ensures ∙ ap number_in c.in_ok-was.ensures)) (gives_hooks s (kept_hooks c.args.hooks.now) (option_copied c.args.old) gives) (listed-gathered c.args.children.now)) (ap given_seen c.in-Ready.is) _ _ _ _ _ refl)
     c.render_node.ensures.place
 
-pub render_component-returns-in-Ready-clause-goes : goal.render_component-returns-in-Ready-clause-goes
-render_component-returns-in-Ready-clause-goes g t c = further c.args.shot.now.checked.now c.args.shot.now.lanes c.args.shot.now.cut (kept_hooks c.args.hooks.now) (kept_hooks c.body_at.new.hooks) (kept_hooks c.render_node.new.hooks) c.body_at.ensures.goes c.render_node.ensures.goes
+pub render_component-returns-in_ok-instance-in-Ready-clause-goes : goal.render_component-returns-in_ok-instance-in-Ready-clause-goes
+render_component-returns-in_ok-instance-in-Ready-clause-goes g t c = further c.args.shot.now.checked.now c.args.shot.now.lanes c.args.shot.now.cut (kept_hooks c.args.hooks.now) (kept_hooks c.body_at.new.hooks) (kept_hooks c.render_node.new.hooks) c.body_at.ensures.goes c.render_node.ensures.goes
 
 pub render_boundary-render_list-requires : goal.render_boundary-render_list-requires
 render_boundary-render_list-requires g t c κs sub = (omega (arith, c.decreases), (sub, (c.requires.drawn, (keeps_children (kept_hooks c.args.hooks.now) (option_copied c.args.old) _ c.children_if-before.ensures c.requires.kept, c.requires.evaluated))))
