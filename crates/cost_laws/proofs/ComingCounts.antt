@@ -12,9 +12,9 @@ use Rattle.rx_meaning.specs.Counts.{count_part, if_throws, if_waits, try_all, un
 use Rattle.rx_meaning.specs.Touched.{children_with_old, component_in, ends_list, is_throw, is_wait}
 use Rattle.rx_rules.specs.Names.{component_at}
 use Rattle.cost_laws.specs.Causes.{has_cause}
-use Rattle.cost_laws.specs.Evaluated.{Evaluates, Flag, above_root, below_boundary, below_node, evaluate_shape, evaluated, in_fallback, is_as_before, once_caught, own_body, stood, whole_evaluated}
+use Rattle.cost_laws.specs.Evaluated.{Evaluates, above_root, below_node, evaluate_shape, evaluated, once_caught, own_body, stood, whole_evaluated}
 use Rattle.cost_laws.specs.Places.{Above, Coming, Comings, above_with, come_all, come_part, come_shape, coming_here, comings, evaluated_places, whole_comings}
-use Rattle.cost_laws.specs.Untouched.{is_untouched}
+use Rattle.cost_laws.specs.Untouched.{is_element_of, is_untouched}
 
 -- how many of these places are evaluated
 abbrev counts : List Coming → ℕ
@@ -86,8 +86,8 @@ FitsShape e (two_lists p f) = component_in e ≡ None
 FitsShape e (guarded p f) = component_in e ≡ None
 
 -- no body is that of a boundary's own place
-none_here : (s : Sight) (u : Flag) (cs : Contexts) (e : Element) (old : Option Node) → component_in e ≡ None → own_body s u cs e old ≡ 0
-none_here s u cs e old fits = ap (λ (c : Option ℕ). cond (is_some c && (has_cause s cs e old || not (is_as_before u e old))) 1 0) fits
+none_here : (s : Sight) (cs : Contexts) (e : Element) (old : Option Node) → component_in e ≡ None → own_body s cs e old ≡ 0
+none_here s cs e old fits = ap (λ (c : Option ℕ). cond (is_some c && (has_cause s cs e old || not (is_element_of e old))) 1 0) fits
 
 shape_counted : (come : Comings) (evaluate : Evaluates) → IsCounted come evaluate → (below : Contexts → Renders) (s : Sight) (a : Above) (cs : Contexts) (e : Element) (old : Option Node) (shape : Shape)
     → FitsShape e shape → counts (come_shape come below s a cs e old shape) ≡ evaluate_shape evaluate below s a.flag cs e old shape
@@ -95,11 +95,11 @@ shape_counted come evaluate counted below s a cs e old absent fits = refl
 shape_counted come evaluate counted below s a cs e old (waiting r v) fits = omega (arith, counts_first (coming_here s a cs e old) [])
 shape_counted come evaluate counted below s a cs e old (throwing x) fits = omega (arith, counts_first (coming_here s a cs e old) [])
 shape_counted come evaluate counted below s a cs e old (one_list m p) fits =
-    let b = above_with a s cs e old (below_node s a.flag cs e old) in
+    let b = above_with a s cs e old (below_node a.flag e old) in
     omega (arith, counts_first (coming_here s a cs e old) (come_part come below b p), part_counted come evaluate counted below b p)
 shape_counted come evaluate counted below s a cs e old (two_lists p f) fits =
-    let b = above_with a s cs e old (below_boundary a.flag e old) in
-    let c = above_with a s cs e old (in_fallback s a.flag e old) in
+    let b = above_with a s cs e old (below_node a.flag e old) in
+    let c = above_with a s cs e old a.flag in
     let primary = come_part come below (record b { address = 0 ∷ a.address }) p in
     let second = come_part come below (record c { address = 1 ∷ a.address }) f in
     let tried = if is_untouched s (stood a.flag) e old then [] else primary in
@@ -107,13 +107,13 @@ shape_counted come evaluate counted below s a cs e old (two_lists p f) fits =
     omega (
       arith,
       counts_first (coming_here s a cs e old) (tried ++ fallen),
-      none_here s a.flag cs e old fits,
+      none_here s cs e old fits,
       counts_and tried fallen,
-      counts_unless (is_untouched s (stood a.flag) e old) primary (count_part (evaluate (below_boundary a.flag e old)) below p) (part_counted come evaluate counted below (record b { address = 0 ∷ a.address }) p),
-      if_waits_same (render_part below p) second (count_part (evaluate (in_fallback s a.flag e old)) below f) (part_counted come evaluate counted below (record c { address = 1 ∷ a.address }) f),
+      counts_unless (is_untouched s (stood a.flag) e old) primary (count_part (evaluate (below_node a.flag e old)) below p) (part_counted come evaluate counted below (record b { address = 0 ∷ a.address }) p),
+      if_waits_same (render_part below p) second (count_part (evaluate a.flag) below f) (part_counted come evaluate counted below (record c { address = 1 ∷ a.address }) f),
     )
 shape_counted come evaluate counted below s a cs e old (guarded p f) fits =
-    let b = above_with a s cs e old (below_node s a.flag cs e old) in
+    let b = above_with a s cs e old (below_node a.flag e old) in
     let c = above_with a s cs e old (once_caught a.flag) in
     let primary = come_part come below (record b { address = 0 ∷ a.address }) p in
     let second = come_part come below (record c { address = 1 ∷ a.address }) f in
@@ -121,7 +121,7 @@ shape_counted come evaluate counted below s a cs e old (guarded p f) fits =
     omega (
       arith,
       counts_first (coming_here s a cs e old) (primary ++ fallen),
-      none_here s a.flag cs e old fits,
+      none_here s cs e old fits,
       counts_and primary fallen,
       part_counted come evaluate counted below (record b { address = 0 ∷ a.address }) p,
       if_throws_same (render_part below p) second (count_part (evaluate (once_caught a.flag)) below f) (part_counted come evaluate counted below (record c { address = 1 ∷ a.address }) f),

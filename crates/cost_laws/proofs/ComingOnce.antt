@@ -5,7 +5,7 @@ use Rattle.rx_elem.specs.Elements.{Element}
 use Rattle.rx_elem.specs.Trees.{Node}
 use Rattle.rx_meaning.specs.Fresh.{Sight, Contexts, Renders, default_contexts, depth_limit, rendered, root_element, Part, Shape, absent, waiting, throwing, one_list, two_lists, guarded, render_part, shape_of}
 use Rattle.rx_meaning.specs.Touched.{Address, children_with_old, ends_list, is_throw, is_wait}
-use Rattle.cost_laws.specs.Evaluated.{above_root, below_boundary, below_node, in_fallback, once_caught, stood}
+use Rattle.cost_laws.specs.Evaluated.{above_root, below_node, once_caught, stood}
 use Rattle.cost_laws.specs.Places.{Above, AllApart, Coming, Comings, above_with, come_all, come_part, come_shape, coming_here, comings, evaluated_places, whole_comings}
 use Rattle.cost_laws.specs.Untouched.{is_untouched}
 use Rattle.cost_laws.proofs.Each.{Each, all_of, each_and, each_kept, each_so}
@@ -127,12 +127,12 @@ shape_once come once below s a cs e old absent = (tt, tt)
 shape_once come once below s a cs e old (waiting r v) = with_children a.address (coming_here s a cs e old) [] refl tt tt
 shape_once come once below s a cs e old (throwing x) = with_children a.address (coming_here s a cs e old) [] refl tt tt
 shape_once come once below s a cs e old (one_list m p) =
-    let b = above_with a s cs e old (below_node s a.flag cs e old) in
+    let b = above_with a s cs e old (below_node a.flag e old) in
     let part = part_once come once below b p in
     with_children a.address (coming_here s a cs e old) (come_part come below b p) refl part.0 part.1
 shape_once come once below s a cs e old (two_lists p f) =
-    let b = above_with a s cs e old (below_boundary a.flag e old) in
-    let c = above_with a s cs e old (in_fallback s a.flag e old) in
+    let b = above_with a s cs e old (below_node a.flag e old) in
+    let c = above_with a s cs e old a.flag in
     let primary = come_part come below (record b { address = 0 ∷ a.address }) p in
     let second = come_part come below (record c { address = 1 ∷ a.address }) f in
     let tried = if is_untouched s (stood a.flag) e old then [] else primary in
@@ -148,7 +148,7 @@ shape_once come once below s a cs e old (two_lists p f) =
     let both = two_apart a.address tried fallen left right in
     with_children a.address (coming_here s a cs e old) (tried ++ fallen) refl both.0 both.1
 shape_once come once below s a cs e old (guarded p f) =
-    let b = above_with a s cs e old (below_node s a.flag cs e old) in
+    let b = above_with a s cs e old (below_node a.flag e old) in
     let c = above_with a s cs e old (once_caught a.flag) in
     let primary = come_part come below (record b { address = 0 ∷ a.address }) p in
     let second = come_part come below (record c { address = 1 ∷ a.address }) f in

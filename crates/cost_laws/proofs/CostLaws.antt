@@ -8,7 +8,7 @@ use Rattle.rx_queue.specs.Journal.{Journal}
 use Rattle.rx_meaning.specs.Fresh.{Sight, Contexts, Place, made, one_waits, Part, two_lists, shape_of, render_part, rendered}
 use Rattle.rx_meaning.specs.Cursor.{Frame, falling, Cursor, at_place, ended, open_part, arrive, start, unit}
 use Rattle.render_laws.specs.SameSight.{SeesSame}
-use Rattle.cost_laws.specs.Evaluated.{beside_kept, evaluated, stood, whole_evaluated}
+use Rattle.cost_laws.specs.Evaluated.{evaluated, stood, whole_evaluated}
 use Rattle.cost_laws.specs.Left.{Costs, Flags, MayGo, flag, left_evaluated, next_evaluated, unit_flags}
 use Rattle.cost_laws.specs.SameWork.{SeesSameWork}
 use Rattle.cost_laws.specs.Untouched.{is_untouched}
@@ -21,7 +21,7 @@ start_costs s old = omega (arith, start_evaluates s old)
 
 -- A unit evaluates the body of the place that it begins, if it is one of those that are evaluated.
 pub unit_costs : (s : Sight) (old : Option Node) (bodies evaluated : ℕ) (us : Flags) (c : Cursor) → MayGo s us c → Costs s old bodies us c
-    → evaluated ≡ next_evaluated s us c → Costs s old (bodies + evaluated) (unit_flags s us c) (unit s c)
+    → evaluated ≡ next_evaluated s c → Costs s old (bodies + evaluated) (unit_flags s us c) (unit s c)
 unit_costs s old bodies evaluated us c may h exact = omega (arith, h, unit_evaluates s us c may, exact)
 
 -- A subtree that is taken over costs nothing, if nothing of it is evaluated.
@@ -34,7 +34,7 @@ take_costs s old bodies n us fs cs e o again calm h = omega (arith, h, calm, tak
 pub attempt_costs : (s : Sight) (old : Option Node) (bodies n : ℕ) (us : Flags) (fs : List Frame) (cs : Contexts) (e : Element)
     (o : Option Node) (p f : Part) (a : Awaits) → shape_of s cs e o ≡ two_lists p f
     → render_part (rendered n s) p ≡ one_waits a → is_untouched s (stood (flag us)) e o ≡ true
-    → Costs s old bodies us (at_place (suc n) fs cs e o) → Costs s old bodies (beside_kept ∷ us) (open_part n fs (falling e o a) f)
+    → Costs s old bodies us (at_place (suc n) fs cs e o) → Costs s old bodies (flag us ∷ us) (open_part n fs (falling e o a) f)
 attempt_costs s old bodies n us fs cs e o p f a shape waited out h = omega (arith, h, attempt_evaluates s us n fs cs e o p f a shape waited out)
 
 -- What a render costs holds for another journal that shows the same.

@@ -13,7 +13,7 @@ use Rattle.rx_meaning.specs.Touched.{children_with_old}
 use Rattle.rx_meaning.specs.Cursor.{given_by, is_null, Open, around, trying, falling, guarding, Frame, Cursor, at_place, at_end, ended, come_to, open_part, arrive, past, unwind, past_throw, unwind_throw, begin, finished, unit, start}
 use Rattle.rx_meaning.specs.Rest.{onto, from_open}
 use Rattle.render_laws.proofs.Resuming.{onto_push, onto_waits, onto_throws, onto_made, open_made, null_is_empty}
-use Rattle.cost_laws.specs.Evaluated.{Flag, after_attempt, below_boundary, beside_kept, evaluate_shape, evaluated, in_fallback, once_caught, stood, whole_evaluated}
+use Rattle.cost_laws.specs.Evaluated.{Flag, below_node, evaluate_shape, evaluated, once_caught, stood, whole_evaluated}
 use Rattle.cost_laws.specs.Untouched.{is_untouched}
 use Rattle.cost_laws.specs.Left.{Flags, flag, outer, evaluate_open, evaluate_around, left_evaluated, unwound_by, unwound, thrown_by, thrown_past, begun_flags, unit_flags, begins_evaluated, next_evaluated, MayTry, MayGo}
 
@@ -87,7 +87,7 @@ past_evaluates : (n : ℕ) (s : Sight) (us : Flags) (fs : List Frame) (o : Open)
     → ((b : Awaits) → left_evaluated s (unwound fs (outer us)) (unwind (suc n) fs b) ≡ evaluate_around (suc n) s fs (outer us) (waits b))
     → left_evaluated s (unwound_by o us (unwound fs (outer us))) (past o a (unwind (suc n) fs) (open_part n fs)) ≡ evaluates_from n s us fs o (one_waits a)
 past_evaluates n s us fs (around e m) a out = omega (arith, out a)
-past_evaluates n s us fs (trying e old f) a out = omega (arith, part_evaluates n s (after_attempt (flag (outer us)) e old ∷ outer us) fs (falling e old a) f)
+past_evaluates n s us fs (trying e old f) a out = omega (arith, part_evaluates n s (flag (outer us) ∷ outer us) fs (falling e old a) f)
 past_evaluates n s us fs (falling e old b) a out = omega (arith, out (awaits.union b a))
 past_evaluates n s us fs (guarding e f) a out = omega (arith, out a)
 
@@ -115,32 +115,24 @@ unwind_throw_evaluates n s us (f ∷ fs) x =
     past_throw_evaluates n s us fs f.node x (unwind_throw_evaluates (suc n) s (outer us) fs x)
     ∙ rw (onto_throws f.done x) (omega arith)
 
--- the fallback of a boundary that is tried has what its children leave it
-tried_fallback : (s : Sight) (u : Flag) (e : Element) (old : Option Node) → is_untouched s (stood u) e old ≡ false → in_fallback s u e old ≡ after_attempt u e old
-tried_fallback s u e old h = ap (λ b. cond b beside_kept (after_attempt u e old)) h
-
 begin_evaluates : (n : ℕ) (s : Sight) (us : Flags) (fs : List Frame) (cs : Contexts) (e : Element) (old : Option Node) (shape : Shape) → MayTry s (flag us) e old shape
     → evaluate_shape (evaluated n s) (rendered n s) s (flag us) cs e old shape + evaluate_around (suc n) s fs us (place_of (rendered n s) e old shape)
-    ≡ begins_evaluated s (flag us) cs e old shape + left_evaluated s (begun_flags s fs us cs e old shape) (begin n fs e old shape)
+    ≡ begins_evaluated s cs e old shape + left_evaluated s (begun_flags fs us e old shape) (begin n fs e old shape)
 begin_evaluates n s us fs cs e old absent h = omega (arith, arrive_evaluates (suc n) s us fs None)
 begin_evaluates n s us fs cs e old (waiting r v) h = omega (arith, unwind_evaluates (suc n) s us fs (awaits.one r))
 begin_evaluates n s us fs cs e old (throwing x) h = omega (arith, unwind_throw_evaluates (suc n) s us fs x)
-begin_evaluates n s us fs cs e old (one_list m p) h = omega (arith, part_evaluates n s (begun_flags s fs us cs e old (one_list m p)) fs (around e m) p)
+begin_evaluates n s us fs cs e old (one_list m p) h = omega (arith, part_evaluates n s (begun_flags fs us e old (one_list m p)) fs (around e m) p)
 begin_evaluates n s us fs cs e old (two_lists p f) h =
-    let u = below_boundary (flag us) e old in
-    let w = after_attempt (flag us) e old in
+    let u = below_node (flag us) e old in
     let tried : cond (is_untouched s (stood (flag us)) e old) 0 (count_part (evaluated n s u) (rendered n s) p) ≡ count_part (evaluated n s u) (rendered n s) p =
     ap (λ b. cond b 0 (count_part (evaluated n s u) (rendered n s) p)) h
     in
-    let after : if_waits (render_part (rendered n s) p) (count_part (evaluated n s (in_fallback s (flag us) e old)) (rendered n s) f) ≡ if_waits (render_part (rendered n s) p) (count_part (evaluated n s w) (rendered n s) f) =
-    ap (λ v. if_waits (render_part (rendered n s) p) (count_part (evaluated n s v) (rendered n s) f)) (tried_fallback s (flag us) e old h)
-    in
-    omega (arith, tried, after, part_evaluates n s (u ∷ us) fs (trying e old f) p)
-begin_evaluates n s us fs cs e old (guarded p f) h = omega (arith, part_evaluates n s (begun_flags s fs us cs e old (guarded p f)) fs (guarding e f) p)
+    omega (arith, tried, part_evaluates n s (u ∷ us) fs (trying e old f) p)
+begin_evaluates n s us fs cs e old (guarded p f) h = omega (arith, part_evaluates n s (begun_flags fs us e old (guarded p f)) fs (guarding e f) p)
 
 place_evaluates : (n : ℕ) (s : Sight) (us : Flags) (fs : List Frame) (cs : Contexts) (e : Element) (old : Option Node) → MayTry s (flag us) e old (shape_of s cs e old)
     → evaluated (suc n) s (flag us) cs e old + evaluate_around (suc n) s fs us (rendered (suc n) s cs e old)
-    ≡ begins_evaluated s (flag us) cs e old (shape_of s cs e old) + left_evaluated s (begun_flags s fs us cs e old (shape_of s cs e old)) (begin n fs e old (shape_of s cs e old))
+    ≡ begins_evaluated s cs e old (shape_of s cs e old) + left_evaluated s (begun_flags fs us e old (shape_of s cs e old)) (begin n fs e old (shape_of s cs e old))
 unfolding evaluated rendered
 place_evaluates n s us fs cs e old h = begin_evaluates n s us fs cs e old (shape_of s cs e old) h
 
@@ -150,7 +142,7 @@ unfolding evaluated rendered
 deep_evaluates s us fs cs e old = omega (arith, arrive_evaluates zero s us fs None)
 
 -- A unit takes away what it evaluates.
-pub unit_evaluates : (s : Sight) (us : Flags) (c : Cursor) → MayGo s us c → left_evaluated s us c ≡ next_evaluated s us c + left_evaluated s (unit_flags s us c) (unit s c)
+pub unit_evaluates : (s : Sight) (us : Flags) (c : Cursor) → MayGo s us c → left_evaluated s us c ≡ next_evaluated s c + left_evaluated s (unit_flags s us c) (unit s c)
 unfolding left_evaluated unit
 unit_evaluates s us (at_place zero fs cs e old) h = deep_evaluates s us fs cs e old
 unit_evaluates s us (at_place (suc n) fs cs e old) h = place_evaluates n s us fs cs e old h
@@ -177,40 +169,33 @@ taken_evaluates s us n fs cs e o again =
 
 -- A boundary whose children would wait again
 
-untouched_fallback : (s : Sight) (u : Flag) (e : Element) (old : Option Node) → is_untouched s (stood u) e old ≡ true → in_fallback s u e old ≡ beside_kept
-untouched_fallback s u e old h = ap (λ b. cond b beside_kept (after_attempt u e old)) h
-
-waiting_evaluates : (s : Sight) (u : Flag) (n : ℕ) (e : Element) (o : Option Node) (p f : Part) (a : Awaits) (w : Flag)
-    → render_part (rendered n s) p ≡ one_waits a → is_untouched s (stood u) e o ≡ true → in_fallback s u e o ≡ w
-    → cond (is_untouched s (stood u) e o) 0 (count_part (evaluated n s (below_boundary u e o)) (rendered n s) p)
-    + if_waits (render_part (rendered n s) p) (count_part (evaluated n s (in_fallback s u e o)) (rendered n s) f)
-    ≡ count_part (evaluated n s w) (rendered n s) f
-waiting_evaluates s u n e o p f a w waited out fallback =
-    let none : cond (is_untouched s (stood u) e o) 0 (count_part (evaluated n s (below_boundary u e o)) (rendered n s) p) ≡ 0 =
-    ap (λ b. cond b 0 (count_part (evaluated n s (below_boundary u e o)) (rendered n s) p)) out
-    in
-    let waits : if_waits (render_part (rendered n s) p) (count_part (evaluated n s (in_fallback s u e o)) (rendered n s) f) ≡ count_part (evaluated n s w) (rendered n s) f =
-    ap (λ ps. if_waits ps (count_part (evaluated n s (in_fallback s u e o)) (rendered n s) f)) waited
-    ∙ ap (λ v. count_part (evaluated n s v) (rendered n s) f) fallback
-    in
-    omega (arith, none, waits)
+waiting_evaluates : (s : Sight) (u : Flag) (n : ℕ) (e : Element) (o : Option Node) (p f : Part) (a : Awaits)
+    → render_part (rendered n s) p ≡ one_waits a → is_untouched s (stood u) e o ≡ true
+    → cond (is_untouched s (stood u) e o) 0 (count_part (evaluated n s (below_node u e o)) (rendered n s) p)
+    + if_waits (render_part (rendered n s) p) (count_part (evaluated n s u) (rendered n s) f)
+    ≡ count_part (evaluated n s u) (rendered n s) f
+waiting_evaluates s u n e o p f a waited out =
+    omega (
+      arith,
+      ap (λ b. cond b 0 (count_part (evaluated n s (below_node u e o)) (rendered n s) p)) out,
+      ap (λ ps. if_waits ps (count_part (evaluated n s u) (rendered n s) f)) waited,
+    )
 
 fallback_at : (s : Sight) (u : Flag) (n : ℕ) (cs : Contexts) (e : Element) (o : Option Node) (p f : Part) (a : Awaits) → shape_of s cs e o ≡ two_lists p f
     → render_part (rendered n s) p ≡ one_waits a → is_untouched s (stood u) e o ≡ true
-    → (evaluated (suc n) s u cs e o ≡ count_part (evaluated n s beside_kept) (rendered n s) f)
+    → (evaluated (suc n) s u cs e o ≡ count_part (evaluated n s u) (rendered n s) f)
     × (rendered (suc n) s cs e o ≡ over_boundary e o (one_waits a) (render_part (rendered n s) f))
 unfolding evaluated rendered
 fallback_at s u n cs e o p f a shape waited out = (
-  ap (evaluate_shape (evaluated n s) (rendered n s) s u cs e o) shape
-      ∙ waiting_evaluates s u n e o p f a beside_kept waited out (untouched_fallback s u e o out),
+  ap (evaluate_shape (evaluated n s) (rendered n s) s u cs e o) shape ∙ waiting_evaluates s u n e o p f a waited out,
   rw (shape, waited) refl,
 )
 
 -- An attempt that is left out, of an untouched boundary, leaves what there was.
 pub attempt_evaluates : (s : Sight) (us : Flags) (n : ℕ) (fs : List Frame) (cs : Contexts) (e : Element) (o : Option Node) (p f : Part) (a : Awaits) → shape_of s cs e o ≡ two_lists p f
     → render_part (rendered n s) p ≡ one_waits a → is_untouched s (stood (flag us)) e o ≡ true
-    → left_evaluated s us (at_place (suc n) fs cs e o) ≡ left_evaluated s (beside_kept ∷ us) (open_part n fs (falling e o a) f)
+    → left_evaluated s us (at_place (suc n) fs cs e o) ≡ left_evaluated s (flag us ∷ us) (open_part n fs (falling e o a) f)
 attempt_evaluates s us n fs cs e o p f a shape waited out =
     let at = fallback_at s (flag us) n cs e o p f a shape waited out in
     let around_it : evaluate_around (suc n) s fs us (rendered (suc n) s cs e o) ≡ evaluate_around (suc n) s fs us (over_boundary e o (one_waits a) (render_part (rendered n s) f)) = ap (evaluate_around (suc n) s fs us) at.1 in
-    omega (arith, at.0, around_it, evaluated_at s us (suc n) fs cs e o, part_evaluates n s (beside_kept ∷ us) fs (falling e o a) f)
+    omega (arith, at.0, around_it, evaluated_at s us (suc n) fs cs e o, part_evaluates n s (flag us ∷ us) fs (falling e o a) f)

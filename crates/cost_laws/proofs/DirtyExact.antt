@@ -2,7 +2,7 @@
 use Rattle.std.specs.Prelude.{◌≡◌, ℕ, Bool, true, false, not, ◌&&◌, ◌||◌, cond, List, ℤ, [], ◌∷◌, Option, Some, None, IfSome, filter, map, nat_eq, refl}
 use Rattle.std.specs.Ordering.{int_eq}
 use Rattle.std.specs.Cmp.Lexicographic.{pointwise}
-use Rattle.std.proofs.Common.{ap, sym, ◌∙◌}
+use Rattle.std.proofs.Common.{ap, sym}
 use Rattle.rx_elem.specs.Elements.{Element, Elements, same_element, same_elements, same_key}
 use Rattle.rx_elem.specs.Elements as elements
 use Rattle.rx_elem.specs.Trees.{Node, element_of}
@@ -10,7 +10,7 @@ use Rattle.rx_elem.proofs.Deciding.{and_passes}
 use Rattle.rx_meaning.specs.Fresh.{Sight, Contexts, root_element, shape_of}
 use Rattle.rx_meaning.specs.Touched.{has_same_inputs, same_inputs}
 use Rattle.cost_laws.specs.Causes.{has_cause, is_dirty}
-use Rattle.cost_laws.specs.Evaluated.{Flag, is_again, is_evaluated}
+use Rattle.cost_laws.specs.Evaluated.{is_evaluated}
 use Rattle.cost_laws.specs.Places.{Coming, dirty_places, evaluated_places, whole_comings}
 use Rattle.cost_laws.specs.Untouched.{is_element_of}
 use Rattle.cost_laws.proofs.Each.{Each}
@@ -44,26 +44,17 @@ equal_or_not c k ps es None paired = refl
 equal_or_not c k ps es (Some n) paired =
     same_tests (same_element (elements.comp c k ps es) (element_of n)) (same_inputs (elements.comp c k ps es) (element_of n)) (equal_inputs c k ps es (element_of n)) paired
 
-as_dirty : (cause again equal same : Bool) → (again ≡ true → equal ≡ true) → equal ≡ same → (cause || not (again || equal)) ≡ (cause || not same)
-as_dirty true again equal same k e = refl
-as_dirty false true true true k e = refl
-as_dirty false true true false k e = absurd (cc e)
-as_dirty false true false same k e = absurd (cc (k refl))
-as_dirty false false equal same k e = ap not e
-
 -- a component's place is evaluated if it is dirty, and only then
-place_exact : (s : Sight) (u : Flag) (cs : Contexts) (e : Element) (old : Option Node) → IsPaired e old → is_evaluated s u cs e old ≡ is_dirty s cs e old
-place_exact s u cs elements.null old paired = refl
-place_exact s u cs (elements.text t) old paired = refl
-place_exact s u cs (elements.host n k attrs es) old paired = refl
-place_exact s u cs (elements.comp c k ps es) old paired =
-    let e = elements.comp c k ps es in
-    as_dirty (has_cause s cs e old) (is_again u e old) (is_element_of e old) (has_same_inputs e old)
-    (λ again. (and_passes (nat_eq u.generation 0) (is_element_of e old) again).1) (equal_or_not c k ps es old paired)
-place_exact s u cs (elements.list marked es) old paired = refl
-place_exact s u cs (elements.boundary k f es) old paired = refl
-place_exact s u cs (elements.catcher k f es) old paired = refl
-place_exact s u cs (elements.provider c k x es) old paired = refl
+place_exact : (s : Sight) (cs : Contexts) (e : Element) (old : Option Node) → IsPaired e old → is_evaluated s cs e old ≡ is_dirty s cs e old
+place_exact s cs elements.null old paired = refl
+place_exact s cs (elements.text t) old paired = refl
+place_exact s cs (elements.host n k attrs es) old paired = refl
+place_exact s cs (elements.comp c k ps es) old paired =
+    ap (λ b. has_cause s cs (elements.comp c k ps es) old || not b) (equal_or_not c k ps es old paired)
+place_exact s cs (elements.list marked es) old paired = refl
+place_exact s cs (elements.boundary k f es) old paired = refl
+place_exact s cs (elements.catcher k f es) old paired = refl
+place_exact s cs (elements.provider c k x es) old paired = refl
 
 -- a place is evaluated if it is dirty, and only then
 abbrev IsExact : Coming → Type 0
@@ -71,7 +62,7 @@ IsExact v = v.evaluated ≡ v.dirty
 
 each_exact : (s : Sight) → AtEach IsPaired IsExact s
 each_exact s a cs e old paired =
-    stands_or_not (is_evaluated s a.flag cs e old ≡ is_dirty s cs e old) (place_exact s a.flag cs e old paired) (shape_of s cs e old)
+    stands_or_not (is_evaluated s cs e old ≡ is_dirty s cs e old) (place_exact s cs e old paired) (shape_of s cs e old)
 
 as_many : (vs : List Coming) → Each IsExact vs → filter (λ v. v.evaluated) vs ≡ filter (λ v. v.dirty) vs
 as_many [] h = refl

@@ -6,7 +6,7 @@ use Rattle.rx_elem.specs.Elements.{Element}
 use Rattle.rx_elem.specs.Trees.{Forest, Node}
 use Rattle.rx_meaning.specs.Fresh.{Sight, Contexts, Renders, default_contexts, depth_limit, rendered, root_element, Part, Shape, absent, waiting, throwing, one_list, two_lists, guarded, render_part, shape_of}
 use Rattle.rx_meaning.specs.Touched.{children_with_old, ends_list, is_throw, is_wait}
-use Rattle.cost_laws.specs.Evaluated.{above_root, below_boundary, below_node, in_fallback, once_caught, stood}
+use Rattle.cost_laws.specs.Evaluated.{above_root, below_node, once_caught, stood}
 use Rattle.cost_laws.specs.Places.{Above, Coming, Comings, above_with, come_all, come_part, come_shape, coming_here, comings, whole_comings}
 use Rattle.cost_laws.specs.Untouched.{is_untouched}
 use Rattle.cost_laws.proofs.Each.{Each, each_and, each_so}
@@ -79,17 +79,17 @@ module _ (K : Element → Option Node → Type 0) (pairs : OfPairs K) (P : Comin
   shape_each come h below s a cs e old absent here = tt
   shape_each come h below s a cs e old (waiting r v) here = (here, tt)
   shape_each come h below s a cs e old (throwing x) here = (here, tt)
-  shape_each come h below s a cs e old (one_list m p) here = (here, part_each come h below (above_with a s cs e old (below_node s a.flag cs e old)) p)
+  shape_each come h below s a cs e old (one_list m p) here = (here, part_each come h below (above_with a s cs e old (below_node a.flag e old)) p)
   shape_each come h below s a cs e old (two_lists p f) here =
-      let b = above_with a s cs e old (below_boundary a.flag e old) in
-      let c = above_with a s cs e old (in_fallback s a.flag e old) in (
+      let b = above_with a s cs e old (below_node a.flag e old) in
+      let c = above_with a s cs e old a.flag in (
         here,
         boundary_comes P (is_untouched s (stood a.flag) e old) (is_wait (render_part below p))
             (come_part come below (record b { address = 0 ∷ a.address }) p) (come_part come below (record c { address = 1 ∷ a.address }) f)
             (λ _. part_each come h below (record b { address = 0 ∷ a.address }) p) (part_each come h below (record c { address = 1 ∷ a.address }) f),
       )
   shape_each come h below s a cs e old (guarded p f) here =
-      let b = above_with a s cs e old (below_node s a.flag cs e old) in
+      let b = above_with a s cs e old (below_node a.flag e old) in
       let c = above_with a s cs e old (once_caught a.flag) in (
         here,
         catcher_comes P (is_throw (render_part below p))

@@ -9,8 +9,8 @@ use Rattle.rx_meaning.specs.Counts.{Tries, unless_waits, if_waits, if_throws, if
 use Rattle.rx_meaning.specs.Touched.{children_with_old}
 use Rattle.render_laws.proofs.UnitBound.{if_made_nothing}
 use Rattle.cost_laws.specs.Causes.{has_cause}
-use Rattle.cost_laws.specs.Evaluated.{Evaluates, Flag, above_root, below_boundary, below_node, evaluate_shape, evaluated, in_fallback, is_as_before, once_caught, own_body, stood, whole_evaluated}
-use Rattle.cost_laws.specs.Untouched.{is_untouched}
+use Rattle.cost_laws.specs.Evaluated.{Evaluates, Flag, above_root, below_node, evaluate_shape, evaluated, once_caught, own_body, stood, whole_evaluated}
+use Rattle.cost_laws.specs.Untouched.{is_element_of, is_untouched}
 
 -- one count is at most another
 abbrev pub IsLess : Tries → Tries → Type 0
@@ -36,15 +36,15 @@ one_less : (b : Bool) → cond b 1 0 ≤ 1
 one_less true = omega arith
 one_less false = omega arith
 
-own_less : (s : Sight) (u : Flag) (cs : Contexts) (e : Element) (old : Option Node) → own_body s u cs e old ≤ one_if_component e
-own_less s u cs elements.null old = omega arith
-own_less s u cs (elements.text t) old = omega arith
-own_less s u cs (elements.host n k attrs es) old = omega arith
-own_less s u cs (elements.comp c k ps es) old = one_less (has_cause s cs (elements.comp c k ps es) old || not (is_as_before u (elements.comp c k ps es) old))
-own_less s u cs (elements.list marked es) old = omega arith
-own_less s u cs (elements.boundary k f es) old = omega arith
-own_less s u cs (elements.catcher k f es) old = omega arith
-own_less s u cs (elements.provider c k x es) old = omega arith
+own_less : (s : Sight) (cs : Contexts) (e : Element) (old : Option Node) → own_body s cs e old ≤ one_if_component e
+own_less s cs elements.null old = omega arith
+own_less s cs (elements.text t) old = omega arith
+own_less s cs (elements.host n k attrs es) old = omega arith
+own_less s cs (elements.comp c k ps es) old = one_less (has_cause s cs (elements.comp c k ps es) old || not (is_element_of (elements.comp c k ps es) old))
+own_less s cs (elements.list marked es) old = omega arith
+own_less s cs (elements.boundary k f es) old = omega arith
+own_less s cs (elements.catcher k f es) old = omega arith
+own_less s cs (elements.provider c k x es) old = omega arith
 
 lists_less : (b : Bool) (ps qs : Places) (x y u v w : ℕ) → x ≤ y → u ≤ v
     → cond b 0 x + if_waits ps u ≤ w + (y + (if_made ps 0 + if_waits ps (v + if_made qs 0)))
@@ -65,19 +65,19 @@ shape_less : (f : Evaluates) (g : Contexts → Tries) (below : Contexts → Rend
     → (s : Sight) (u : Flag) (cs : Contexts) (e : Element) (old : Option Node) (shape : Shape)
     → evaluate_shape f below s u cs e old shape ≤ count_shape each_body g below cs e old shape
 shape_less f g below h s u cs e old absent = omega arith
-shape_less f g below h s u cs e old (waiting r v) = own_less s u cs e old
-shape_less f g below h s u cs e old (throwing x) = own_less s u cs e old
+shape_less f g below h s u cs e old (waiting r v) = own_less s cs e old
+shape_less f g below h s u cs e old (throwing x) = own_less s cs e old
 shape_less f g below h s u cs e old (one_list m p) =
-    omega (arith, own_less s u cs e old, part_less (f (below_node s u cs e old)) g below (h (below_node s u cs e old)) p, if_made_nothing (render_part below p))
+    omega (arith, own_less s cs e old, part_less (f (below_node u e old)) g below (h (below_node u e old)) p, if_made_nothing (render_part below p))
 shape_less f g below h s u cs e old (two_lists p q) =
     lists_less (is_untouched s (stood u) e old) (render_part below p) (render_part below q)
-    (count_part (f (below_boundary u e old)) below p) (count_part g below p) (count_part (f (in_fallback s u e old)) below q) (count_part g below q) (one_if_component e)
-    (part_less (f (below_boundary u e old)) g below (h (below_boundary u e old)) p)
-    (part_less (f (in_fallback s u e old)) g below (h (in_fallback s u e old)) q)
+    (count_part (f (below_node u e old)) below p) (count_part g below p) (count_part (f u) below q) (count_part g below q) (one_if_component e)
+    (part_less (f (below_node u e old)) g below (h (below_node u e old)) p)
+    (part_less (f u) g below (h u) q)
 shape_less f g below h s u cs e old (guarded p q) =
     tries_less (render_part below p) (render_part below q)
-    (count_part (f (below_node s u cs e old)) below p) (count_part g below p) (count_part (f (once_caught u)) below q) (count_part g below q) (one_if_component e)
-    (part_less (f (below_node s u cs e old)) g below (h (below_node s u cs e old)) p)
+    (count_part (f (below_node u e old)) below p) (count_part g below p) (count_part (f (once_caught u)) below q) (count_part g below q) (one_if_component e)
+    (part_less (f (below_node u e old)) g below (h (below_node u e old)) p)
     (part_less (f (once_caught u)) g below (h (once_caught u)) q)
 
 evaluated_less : (n : ℕ) (s : Sight) (u : Flag) (cs : Contexts) → IsLess (evaluated n s u cs) (counted each_body n s cs)

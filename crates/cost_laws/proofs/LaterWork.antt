@@ -11,17 +11,16 @@ use Rattle.rx_elem.specs.Trees.{Forest, Instance, Mark, Node, boundary_in, child
 use Rattle.rx_queue.specs.Journal.{Journal, Posted, Resolution, Target, hook, is_included, same_target, updates_of}
 use Rattle.rx_queue.specs.History.{stands_done, stands_open}
 use Rattle.rx_meaning.specs.Fresh.{Sight, Contexts, Renders, Place, made, rendered, depth_limit, default_contexts, root_element, old_instance, Shape, absent, waiting, throwing, one_list, two_lists, guarded, shape_of, render_part}
-use Rattle.rx_meaning.specs.Counts.{count_part, if_throws, if_waits, unless_waits, try_all}
+use Rattle.rx_meaning.specs.Counts.{count_part, if_waits, unless_waits, try_all}
 use Rattle.rx_meaning.specs.Cursor.{Frame, Cursor, at_place, at_end, ended, finished}
 use Rattle.rx_meaning.specs.Rest.{from_open, list_from}
-use Rattle.rx_meaning.specs.Generations.{generation_below}
 use Rattle.rx_meaning.specs.Touched.{component_in, is_read_anew, may_throw_anew}
 use Rattle.render_laws.specs.SameSight.{SeesSame, AllAfter}
 use Rattle.render_laws.proofs.LaterEntries.{renders_same, shape_same, AllFail, late_fail, longer_refresh}
 use Rattle.rx_meaning.specs.Again.{AllOpen}
 use Rattle.cost_laws.specs.Causes.{has_cause, instance_news, is_called, is_due, is_left_waiting, is_news, news_at, news_in, some_update, waits_still}
-use Rattle.cost_laws.specs.Evaluated.{Evaluates, Flag, above_root, after_attempt, below_boundary, below_node, beside_kept, evaluate_shape, evaluated, in_fallback, is_as_before, is_evaluated, once_caught, own_body, stood, whole_evaluated}
-use Rattle.cost_laws.specs.Untouched.{is_element_of, is_untouched, moved_below, visible_below}
+use Rattle.cost_laws.specs.Evaluated.{Evaluates, Flag, above_root, below_node, evaluate_shape, evaluated, is_evaluated, own_body, stood, whole_evaluated}
+use Rattle.cost_laws.specs.Untouched.{is_element_of, is_untouched}
 use Rattle.cost_laws.specs.Left.{Flags, flag, outer, evaluate_open, evaluate_around, left_evaluated}
 use Rattle.cost_laws.specs.SameWork.{SeesSameWork}
 use Rattle.cost_laws.specs.Undue.{IsUndue}
@@ -74,30 +73,21 @@ module _ (s : Sight) (j : Journal) (same : SeesSame s j) (work : SeesSameWork s 
   pub untouched_same : (there : Bool) (e : Element) (old : Option Node) → is_untouched s there e old ≡ is_untouched seen there e old
   untouched_same there e old = ap (λ b. there && (is_element_of e old && b)) (still_same old)
 
-  fallback_same : (u : Flag) (e : Element) (old : Option Node) → in_fallback s u e old ≡ in_fallback seen u e old
-  fallback_same u e old = ap (λ b. cond b beside_kept (after_attempt u e old)) (untouched_same (stood u) e old)
+  called_here : (cs : Contexts) (e : Element) (old : Option Node) → is_evaluated s cs e old ≡ is_evaluated seen cs e old
+  called_here cs e old = ap (λ b. is_some (component_in e) && (b || not (is_element_of e old))) (cause_same cs e old)
 
-  called_here : (u : Flag) (cs : Contexts) (e : Element) (old : Option Node) → is_evaluated s u cs e old ≡ is_evaluated seen u cs e old
-  called_here u cs e old = ap (λ b. is_some (component_in e) && (b || not (is_as_before u e old))) (cause_same cs e old)
-
-  node_same : (u : Flag) (cs : Contexts) (e : Element) (old : Option Node) → below_node s u cs e old ≡ below_node seen u cs e old
-  node_same u cs e old =
-      λ i. record { generation = generation_below (called_here u cs e old i) (is_as_before u e old) (stands_for_children e) u.generation; visible = visible_below u.visible e old; moved = moved_below u.moved e old }
-
-  own_same : (u : Flag) (cs : Contexts) (e : Element) (old : Option Node) → own_body s u cs e old ≡ own_body seen u cs e old
-  own_same u cs e old = ap (λ b. cond b 1 0) (called_here u cs e old)
+  own_same : (cs : Contexts) (e : Element) (old : Option Node) → own_body s cs e old ≡ own_body seen cs e old
+  own_same cs e old = ap (λ b. cond b 1 0) (called_here cs e old)
 
   place_same : (evaluate : Evaluates) (below : Contexts → Renders) (u : Flag) (cs : Contexts) (e : Element) (old : Option Node) (shape : Shape)
       → evaluate_shape evaluate below s u cs e old shape ≡ evaluate_shape evaluate below seen u cs e old shape
   place_same evaluate below u cs e old absent = refl
-  place_same evaluate below u cs e old (waiting r v) = own_same u cs e old
-  place_same evaluate below u cs e old (throwing x) = own_same u cs e old
-  place_same evaluate below u cs e old (one_list m p) = λ i. own_same u cs e old i + count_part (evaluate (node_same u cs e old i)) below p
+  place_same evaluate below u cs e old (waiting r v) = own_same cs e old
+  place_same evaluate below u cs e old (throwing x) = own_same cs e old
+  place_same evaluate below u cs e old (one_list m p) = ap (λ k. k + count_part (evaluate (below_node u e old)) below p) (own_same cs e old)
   place_same evaluate below u cs e old (two_lists p f) =
-      λ i. cond (untouched_same (stood u) e old i) 0 (count_part (evaluate (below_boundary u e old)) below p)
-      + if_waits (render_part below p) (count_part (evaluate (fallback_same u e old i)) below f)
-  place_same evaluate below u cs e old (guarded p f) =
-      λ i. count_part (evaluate (node_same u cs e old i)) below p + if_throws (render_part below p) (count_part (evaluate (once_caught u)) below f)
+      ap (λ b. cond b 0 (count_part (evaluate (below_node u e old)) below p) + if_waits (render_part below p) (count_part (evaluate u) below f)) (untouched_same (stood u) e old)
+  place_same evaluate below u cs e old (guarded p f) = refl
 
   evaluated_same : (n : ℕ) (u : Flag) (cs : Contexts) (e : Element) (old : Option Node) → evaluated n s u cs e old ≡ evaluated n seen u cs e old
   unfolding evaluated

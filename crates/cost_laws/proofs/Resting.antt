@@ -3,7 +3,7 @@ use Rattle.std.specs.Prelude.{◌≡◌, ℕ, zero, suc, Bool, true, false, not,
 use Rattle.std.specs.List.{zip}
 use Rattle.std.proofs.Common.{ap, arith, subst}
 use Rattle.rx_susp.specs.declared.boundary.BoundaryState.TheVariants.{Hidden, Shown}
-use Rattle.rx_elem.specs.Elements.{Element, stands_for_children}
+use Rattle.rx_elem.specs.Elements.{Element}
 use Rattle.rx_elem.specs.Elements as elements
 use Rattle.rx_elem.specs.Trees.{Forest, Instance, Mark, Node, child, element_of, elements_in, is_caught, is_hidden, node, none, of_boundary, of_catcher, of_host, of_instance, places, plain, vacant}
 use Rattle.rx_elem.proofs.Equality.{same_element-self}
@@ -11,13 +11,12 @@ use Rattle.rx_elem.proofs.SelfMatch.{NoNull, matches_itself}
 use Rattle.rx_meaning.specs.Fresh.{Sight, Contexts, Place, empty, made, waits, throws, Places, all_made, one_waits, one_throws, before, over, over_boundary, over_catcher, Part, part, Shape, one_list, two_lists, guarded, place_of, rendered, render_all, render_part, shape_of, version_seen}
 use Rattle.rx_meaning.specs.Counts.{count_part, if_throws, if_waits, try_all, unless_waits}
 use Rattle.rx_meaning.specs.Settled.{AllReadsHold, AllSettled, IfHidden, IsOwn, IsSettled, ReadsHold, kept_shape, known_by, read_anew, reads_another, refreshed}
-use Rattle.rx_meaning.specs.Generations.{generation_below, own_generation}
 use Rattle.rx_meaning.specs.Touched.{component_in, contexts_below}
 use Rattle.commit_laws.specs.Each.{ForEach, ForEachIn}
 use Rattle.commit_laws.specs.Idle.{AllIdle, IsIdle, IsIdleMark}
 use Rattle.commit_laws.proofs.TakeOver.{idle_shape, settled_no_null}
 use Rattle.cost_laws.specs.Causes.{has_cause, is_called, is_due, some_update}
-use Rattle.cost_laws.specs.Evaluated.{Flag, below_boundary, below_node, evaluate_shape, evaluated, in_fallback, is_again, is_as_before, is_evaluated, once_caught, own_body, stood}
+use Rattle.cost_laws.specs.Evaluated.{Flag, below_node, evaluate_shape, evaluated, is_evaluated, once_caught, own_body, stood}
 use Rattle.cost_laws.specs.Undue.{IsUndue}
 use Rattle.cost_laws.specs.Untouched.{is_element_of, is_untouched}
 
@@ -44,91 +43,14 @@ body_rests s cs (elements.boundary key f es) m ns fs own undue calm = refl
 body_rests s cs (elements.catcher key f es) m ns fs own undue calm = refl
 body_rests s cs (elements.provider c key x es) m ns fs own undue calm = refl
 
--- Flags
+nothing_evaluated : (component cause equal : Bool) → cause ≡ false → equal ≡ true → (component && (cause || not equal)) ≡ false
+nothing_evaluated true cause equal h k = rw (h, k) refl
+nothing_evaluated false cause equal h k = refl
 
--- if its element is of generation 0, that of an old node is given again
-given_again : (u : Flag) (e : Element) (m : Mark) (ns fs : Forest) → u.generation ≡ 0 → is_again u e (Some (node e m ns fs)) ≡ true
-given_again u e m ns fs zeroth = rw (zeroth, same_element-self e) refl
-
--- So it is as before, of whatever component.
-pub as_before : (u : Flag) (e : Element) (m : Mark) (ns fs : Forest) → u.generation ≡ 0 → is_as_before u e (Some (node e m ns fs)) ≡ true
-as_before u e m ns fs zeroth = ap (λ b. b || (is_some (component_in e) && is_element_of e (Some (node e m ns fs)))) (given_again u e m ns fs zeroth)
-
-nothing_evaluated : (component cause again : Bool) → cause ≡ false → again ≡ true → (component && (cause || not again)) ≡ false
-nothing_evaluated true cause again h k = rw (h, k) refl
-nothing_evaluated false cause again h k = refl
-
--- If its element is as before and it has no cause, the body of a place is not evaluated.
-calm_body : (s : Sight) (u : Flag) (cs : Contexts) (e : Element) (old : Option Node) → is_as_before u e old ≡ true → has_cause s cs e old ≡ false → is_evaluated s u cs e old ≡ false
-calm_body s u cs e old same calm = nothing_evaluated (is_some (component_in e)) (has_cause s cs e old) (is_as_before u e old) calm same
-
--- If its element is of generation 0 and it has no cause, the body of an old node's place is not evaluated.
-pub not_evaluated : (s : Sight) (u : Flag) (cs : Contexts) (e : Element) (m : Mark) (ns fs : Forest) → u.generation ≡ 0 → has_cause s cs e (Some (node e m ns fs)) ≡ false
-    → is_evaluated s u cs e (Some (node e m ns fs)) ≡ false
-not_evaluated s u cs e m ns fs zeroth calm = calm_body s u cs e (Some (node e m ns fs)) (as_before u e m ns fs zeroth) calm
-
-generation_kept : (evaluated again for_children : Bool) (g : ℕ) → evaluated ≡ false → again ≡ true → generation_below evaluated again for_children g ≡ 0
-generation_kept false true true g h k = refl
-generation_kept false true false g h k = refl
-generation_kept true again for_children g h k = absurd (cc h)
-generation_kept false false for_children g h k = absurd (cc k)
-
--- Then the elements of its children are of generation 0.
-calm_zeroth : (s : Sight) (u : Flag) (cs : Contexts) (e : Element) (old : Option Node) → is_as_before u e old ≡ true → has_cause s cs e old ≡ false → (below_node s u cs e old).generation ≡ 0
-calm_zeroth s u cs e old same calm =
-    generation_kept (is_evaluated s u cs e old) (is_as_before u e old) (stands_for_children e) u.generation (calm_body s u cs e old same calm) same
-
-pub node_zeroth : (s : Sight) (u : Flag) (cs : Contexts) (e : Element) (m : Mark) (ns fs : Forest) → u.generation ≡ 0 → has_cause s cs e (Some (node e m ns fs)) ≡ false
-    → (below_node s u cs e (Some (node e m ns fs))).generation ≡ 0
-node_zeroth s u cs e m ns fs zeroth calm = calm_zeroth s u cs e (Some (node e m ns fs)) (as_before u e m ns fs zeroth) calm
-
-own_kept : (again hidden : Bool) (g : ℕ) → again ≡ true → hidden ≡ false → own_generation (again && not hidden) g ≡ 0
-own_kept true false g h k = refl
-own_kept true true g h k = absurd (cc k)
-own_kept false hidden g h k = absurd (cc h)
-
-first_holds : (a : Bool) → a || false ≡ true → a ≡ true
-first_holds true h = refl
-first_holds false h = h
-
--- So are those of a boundary that is shown.
-pub boundary_zeroth : (u : Flag) (e : Element) (m : Mark) (ns fs : Forest) → u.generation ≡ 0 → is_hidden m ≡ false
-    → (below_boundary u e (Some (node e m ns fs))).generation ≡ 0
-boundary_zeroth u e m ns fs zeroth shown =
-    own_kept (is_again u e (Some (node e m ns fs))) (is_hidden m) u.generation (given_again u e m ns fs zeroth) shown
-
--- what is said of a boundary of Suspense, and of no other element
-abbrev IfBoundary : Type 0 → Element → Type 0
-IfBoundary A elements.null = Unit {0}
-IfBoundary A (elements.text t) = Unit {0}
-IfBoundary A (elements.host n k attrs es) = Unit {0}
-IfBoundary A (elements.comp c k ps es) = Unit {0}
-IfBoundary A (elements.list marked es) = Unit {0}
-IfBoundary A (elements.boundary k f es) = A
-IfBoundary A (elements.catcher k f es) = Unit {0}
-IfBoundary A (elements.provider c k x es) = Unit {0}
-
--- The children of a boundary that is as before and is shown are of generation 0.
-calm_boundary : (s : Sight) (u : Flag) (e : Element) (m : Mark) (ns fs : Forest) → is_as_before u e (Some (node e m ns fs)) ≡ true → is_hidden m ≡ false
-    → IfBoundary ((below_boundary u e (Some (node e m ns fs))).generation ≡ 0) e
-calm_boundary s u elements.null m ns fs same shown = tt
-calm_boundary s u (elements.text t) m ns fs same shown = tt
-calm_boundary s u (elements.host n k attrs es) m ns fs same shown = tt
-calm_boundary s u (elements.comp c k ps es) m ns fs same shown = tt
-calm_boundary s u (elements.list marked es) m ns fs same shown = tt
-calm_boundary s u (elements.boundary k f es) m ns fs same shown =
-    own_kept (is_again u (elements.boundary k f es) (Some (node (elements.boundary k f es) m ns fs))) (is_hidden m) u.generation
-    (first_holds (is_again u (elements.boundary k f es) (Some (node (elements.boundary k f es) m ns fs))) same) shown
-calm_boundary s u (elements.catcher k f es) m ns fs same shown = tt
-calm_boundary s u (elements.provider c k x es) m ns fs same shown = tt
-
-idle_shown : (s : Sight) (m : Mark) → IsIdleMark s m → is_hidden m ≡ false
-idle_shown s (of_instance i) idle = refl
-idle_shown s (of_host h) idle = refl
-idle_shown s (of_catcher c) idle = refl
-idle_shown s plain idle = refl
-idle_shown s (of_boundary Shown) idle = refl
-idle_shown s (of_boundary (Hidden a)) idle = absurd idle
+-- If it has no cause, the body of an old node's place is not evaluated once its own element is given again.
+pub not_evaluated : (s : Sight) (cs : Contexts) (e : Element) (m : Mark) (ns fs : Forest) → has_cause s cs e (Some (node e m ns fs)) ≡ false → is_evaluated s cs e (Some (node e m ns fs)) ≡ false
+not_evaluated s cs e m ns fs calm =
+    nothing_evaluated (is_some (component_in e)) (has_cause s cs e (Some (node e m ns fs))) (is_element_of e (Some (node e m ns fs))) calm (same_element-self e)
 
 -- Places
 
@@ -206,22 +128,22 @@ nothing_if false k h = h
 abbrev ShapeRests : ℕ → Sight → Flag → Contexts → Element → Option Node → Shape → Type 0
 ShapeRests n s u cs e old shape = (evaluate_shape (evaluated n s) (rendered n s) s u cs e old shape ≡ 0) × Stands (place_of (rendered n s) e old shape)
 
-one_rests : (n : ℕ) (s : Sight) (u : Flag) (cs : Contexts) (e : Element) (old : Option Node) (m : Mark) (p : Part) → own_body s u cs e old ≡ 0
-    → PartRests n s (below_node s u cs e old) p → ShapeRests n s u cs e old (one_list m p)
+one_rests : (n : ℕ) (s : Sight) (u : Flag) (cs : Contexts) (e : Element) (old : Option Node) (m : Mark) (p : Part) → own_body s cs e old ≡ 0
+    → PartRests n s (below_node u e old) p → ShapeRests n s u cs e old (one_list m p)
 one_rests n s u cs e old m p body h = (omega (arith, body, h.0), over_stands e m (render_part (rendered n s) p) h.1)
 
-two_rest : (n : ℕ) (s : Sight) (u : Flag) (cs : Contexts) (e : Element) (old : Option Node) (p f : Part) → PartRests n s (below_boundary u e old) p
+two_rest : (n : ℕ) (s : Sight) (u : Flag) (cs : Contexts) (e : Element) (old : Option Node) (p f : Part) → PartRests n s (below_node u e old) p
     → ShapeRests n s u cs e old (two_lists p f)
 two_rest n s u cs e old p f h = (
   omega (
     arith,
-    nothing_if (is_untouched s (stood u) e old) (count_part (evaluated n s (below_boundary u e old)) (rendered n s) p) h.0,
-    no_fallback (render_part (rendered n s) p) (count_part (evaluated n s (in_fallback s u e old)) (rendered n s) f) h.1,
+    nothing_if (is_untouched s (stood u) e old) (count_part (evaluated n s (below_node u e old)) (rendered n s) p) h.0,
+    no_fallback (render_part (rendered n s) p) (count_part (evaluated n s u) (rendered n s) f) h.1,
   ),
   boundary_stands e old (render_part (rendered n s) p) (render_part (rendered n s) f) h.1,
 )
 
-tried_rests : (n : ℕ) (s : Sight) (u : Flag) (cs : Contexts) (e : Element) (old : Option Node) (p f : Part) → PartRests n s (below_node s u cs e old) p
+tried_rests : (n : ℕ) (s : Sight) (u : Flag) (cs : Contexts) (e : Element) (old : Option Node) (p f : Part) → PartRests n s (below_node u e old) p
     → ShapeRests n s u cs e old (guarded p f)
 tried_rests n s u cs e old p f h = (
   omega (arith, h.0, none_caught (render_part (rendered n s) p) (count_part (evaluated n s (once_caught u)) (rendered n s) f) h.1),
@@ -229,33 +151,32 @@ tried_rests n s u cs e old p f h = (
 )
 
 -- an error boundary that has caught a value rests if its fallback does, and another if its children do
-catcher_rests : (n : ℕ) (s : Sight) (u : Flag) (cs : Contexts) (e f : Element) (old : Option Node) (m : Mark) (ns fs : Forest) (caught : Bool) → own_body s u cs e old ≡ 0
-    → PartRests n s (below_node s u cs e old) (part cs (elements_in ns) ns) → PartRests n s (below_node s u cs e old) (part cs (elements_in fs) fs)
+catcher_rests : (n : ℕ) (s : Sight) (u : Flag) (cs : Contexts) (e f : Element) (old : Option Node) (m : Mark) (ns fs : Forest) (caught : Bool) → own_body s cs e old ≡ 0
+    → PartRests n s (below_node u e old) (part cs (elements_in ns) ns) → PartRests n s (below_node u e old) (part cs (elements_in fs) fs)
     → ShapeRests n s u cs e old (if caught then one_list m (part cs (elements_in fs) fs) else guarded (part cs (elements_in ns) ns) (part cs (f ∷ []) none))
 catcher_rests n s u cs e f old m ns fs true body h k = one_rests n s u cs e old m (part cs (elements_in fs) fs) body k
 catcher_rests n s u cs e f old m ns fs false body h k = tried_rests n s u cs e old (part cs (elements_in ns) ns) (part cs (f ∷ []) none) h
 
 kept_rests : (n : ℕ) (s : Sight) (u : Flag) (cs : Contexts) (e : Element) (old : Option Node) (m : Mark) (ns fs : Forest)
-    → own_body s u cs e old ≡ 0 → (below_node s u cs e old).generation ≡ 0 → IfBoundary ((below_boundary u e old).generation ≡ 0) e
-    → ((v : Flag) → v.generation ≡ 0 → PartRests n s v (part (contexts_below e cs) (elements_in ns) ns)) → ((v : Flag) → v.generation ≡ 0 → PartRests n s v (part cs (elements_in fs) fs))
+    → own_body s cs e old ≡ 0 → ((v : Flag) → PartRests n s v (part (contexts_below e cs) (elements_in ns) ns)) → ((v : Flag) → PartRests n s v (part cs (elements_in fs) fs))
     → ShapeRests n s u cs e old (kept_shape cs e m ns fs)
-kept_rests n s u cs elements.null old m ns fs body one two h second = (refl, tt)
-kept_rests n s u cs (elements.text t) old m ns fs body one two h second =
-    one_rests n s u cs (elements.text t) old m (part cs (elements_in ns) ns) body (h (below_node s u cs (elements.text t) old) one)
-kept_rests n s u cs (elements.host x key attrs es) old m ns fs body one two h second =
-    one_rests n s u cs (elements.host x key attrs es) old m (part cs (elements_in ns) ns) body (h (below_node s u cs (elements.host x key attrs es) old) one)
-kept_rests n s u cs (elements.comp c key props given) old m ns fs body one two h second =
-    one_rests n s u cs (elements.comp c key props given) old m (part cs (elements_in ns) ns) body (h (below_node s u cs (elements.comp c key props given) old) one)
-kept_rests n s u cs (elements.list marked es) old m ns fs body one two h second =
-    one_rests n s u cs (elements.list marked es) old m (part cs (elements_in ns) ns) body (h (below_node s u cs (elements.list marked es) old) one)
-kept_rests n s u cs (elements.boundary key f es) old m ns fs body one two h second =
-    two_rest n s u cs (elements.boundary key f es) old (part cs (elements_in ns) ns) (part cs (f ∷ []) fs) (h (below_boundary u (elements.boundary key f es) old) two)
-kept_rests n s u cs (elements.catcher key f es) old m ns fs body one two h second =
+kept_rests n s u cs elements.null old m ns fs body h second = (refl, tt)
+kept_rests n s u cs (elements.text t) old m ns fs body h second =
+    one_rests n s u cs (elements.text t) old m (part cs (elements_in ns) ns) body (h (below_node u (elements.text t) old))
+kept_rests n s u cs (elements.host x key attrs es) old m ns fs body h second =
+    one_rests n s u cs (elements.host x key attrs es) old m (part cs (elements_in ns) ns) body (h (below_node u (elements.host x key attrs es) old))
+kept_rests n s u cs (elements.comp c key props given) old m ns fs body h second =
+    one_rests n s u cs (elements.comp c key props given) old m (part cs (elements_in ns) ns) body (h (below_node u (elements.comp c key props given) old))
+kept_rests n s u cs (elements.list marked es) old m ns fs body h second =
+    one_rests n s u cs (elements.list marked es) old m (part cs (elements_in ns) ns) body (h (below_node u (elements.list marked es) old))
+kept_rests n s u cs (elements.boundary key f es) old m ns fs body h second =
+    two_rest n s u cs (elements.boundary key f es) old (part cs (elements_in ns) ns) (part cs (f ∷ []) fs) (h (below_node u (elements.boundary key f es) old))
+kept_rests n s u cs (elements.catcher key f es) old m ns fs body h second =
     let e = elements.catcher key f es in
-    catcher_rests n s u cs e f old m ns fs (is_caught m) body (h (below_node s u cs e old) one) (second (below_node s u cs e old) one)
-kept_rests n s u cs (elements.provider c key x es) old m ns fs body one two h second =
+    catcher_rests n s u cs e f old m ns fs (is_caught m) body (h (below_node u e old)) (second (below_node u e old))
+kept_rests n s u cs (elements.provider c key x es) old m ns fs body h second =
     one_rests n s u cs (elements.provider c key x es) old m (part (contexts_below (elements.provider c key x es) cs) (elements_in ns) ns) body
-    (h (below_node s u cs (elements.provider c key x es) old) one)
+    (h (below_node u (elements.provider c key x es) old))
 
 -- a list against its own elements rests if its places do
 own_part_rests : (n : ℕ) (s : Sight) (u : Flag) (cs : Contexts) (ns : Forest) → NoNull ns → AllRest n s u cs (zip (elements_in ns) (places ns))
@@ -295,33 +216,27 @@ no_level_rests : (s : Sight) (u : Flag) (cs : Contexts) (e : Element) (old : Opt
 unfolding evaluated rendered
 no_level_rests s u cs e old = (refl, tt)
 
--- of whatever old node
-pub node_before : (u : Flag) (x : Node) → u.generation ≡ 0 → is_as_before u (element_of x) (Some x) ≡ true
-node_before u (node e m ns fs) zeroth = as_before u e m ns fs zeroth
-
 mutual
-  tree_rests : (n : ℕ) (s : Sight) (u : Flag) (cs : Contexts) (x : Node) → is_as_before u (element_of x) (Some x) ≡ true → IsSettled s.program (known_by s) x → IsIdle s x → ForEach (IsUndue s) x → ReadsHold (version_seen s) cs x
+  tree_rests : (n : ℕ) (s : Sight) (u : Flag) (cs : Contexts) (x : Node) → IsSettled s.program (known_by s) x → IsIdle s x → ForEach (IsUndue s) x → ReadsHold (version_seen s) cs x
       → Rests n s u cs (element_of x) (Some x)
-  tree_rests zero s u cs (node e m ns fs) same settled idle undue reads = no_level_rests s u cs e (Some (node e m ns fs))
-  tree_rests (suc n) s u cs (node e m ns fs) same settled idle undue reads =
-      let calm = body_rests s cs e m ns fs settled.0 undue.0 reads.0 in
+  tree_rests zero s u cs (node e m ns fs) settled idle undue reads = no_level_rests s u cs e (Some (node e m ns fs))
+  tree_rests (suc n) s u cs (node e m ns fs) settled idle undue reads =
       place_rests n s u cs e m ns fs (idle_shape s cs e m ns fs settled.0 idle.0 reads.0)
-      (kept_rests n s u cs e (Some (node e m ns fs)) m ns fs (ap (λ b. cond b 1 0) (calm_body s u cs e (Some (node e m ns fs)) same calm))
-      (calm_zeroth s u cs e (Some (node e m ns fs)) same calm) (calm_boundary s u e m ns fs same (idle_shown s m idle.0))
-      (λ v h. own_part_rests n s v (contexts_below e cs) ns (settled_no_null s.program (known_by s) ns settled.1)
-      (trees_rest n s v (contexts_below e cs) ns h settled.1 idle.1 undue.1 (reads_below s m (AllReadsHold (version_seen s) (contexts_below e cs) ns) idle.0 reads.1)))
-      (λ v h. own_part_rests n s v cs fs (settled_no_null s.program (known_by s) fs settled.2) (trees_rest n s v cs fs h settled.2 idle.2 undue.2 reads.2)))
+      (kept_rests n s u cs e (Some (node e m ns fs)) m ns fs (ap (λ b. cond b 1 0) (not_evaluated s cs e m ns fs (body_rests s cs e m ns fs settled.0 undue.0 reads.0)))
+      (λ v. own_part_rests n s v (contexts_below e cs) ns (settled_no_null s.program (known_by s) ns settled.1)
+      (trees_rest n s v (contexts_below e cs) ns settled.1 idle.1 undue.1 (reads_below s m (AllReadsHold (version_seen s) (contexts_below e cs) ns) idle.0 reads.1)))
+      (λ v. own_part_rests n s v cs fs (settled_no_null s.program (known_by s) fs settled.2) (trees_rest n s v cs fs settled.2 idle.2 undue.2 reads.2)))
 
-  trees_rest : (n : ℕ) (s : Sight) (u : Flag) (cs : Contexts) (ns : Forest) → u.generation ≡ 0 → AllSettled s.program (known_by s) ns → AllIdle s ns → ForEachIn (IsUndue s) ns → AllReadsHold (version_seen s) cs ns
+  trees_rest : (n : ℕ) (s : Sight) (u : Flag) (cs : Contexts) (ns : Forest) → AllSettled s.program (known_by s) ns → AllIdle s ns → ForEachIn (IsUndue s) ns → AllReadsHold (version_seen s) cs ns
       → AllRest n s u cs (zip (elements_in ns) (places ns))
-  trees_rest n s u cs none zeroth settled idle undue reads = (refl, tt)
-  trees_rest n s u cs (vacant ns) zeroth settled idle undue reads =
-      first_rests n s u cs elements.null None (zip (elements_in ns) (places ns)) (gap_rests n s u cs) (trees_rest n s u cs ns zeroth settled idle undue reads)
-  trees_rest n s u cs (child x ns) zeroth settled idle undue reads =
+  trees_rest n s u cs none settled idle undue reads = (refl, tt)
+  trees_rest n s u cs (vacant ns) settled idle undue reads =
+      first_rests n s u cs elements.null None (zip (elements_in ns) (places ns)) (gap_rests n s u cs) (trees_rest n s u cs ns settled idle undue reads)
+  trees_rest n s u cs (child x ns) settled idle undue reads =
       first_rests n s u cs (element_of x) (Some x) (zip (elements_in ns) (places ns))
-      (tree_rests n s u cs x (node_before u x zeroth) settled.0 idle.0 undue.0 reads.0) (trees_rest n s u cs ns zeroth settled.1 idle.1 undue.1 reads.1)
+      (tree_rests n s u cs x settled.0 idle.0 undue.0 reads.0) (trees_rest n s u cs ns settled.1 idle.1 undue.1 reads.1)
 
--- Nothing is evaluated of a tree whose element is as before, that is idle, whose instances have each included update done, and in which reads hold.
-pub nothing_rests : (s : Sight) (u : Flag) (cs : Contexts) (x : Node) (n : ℕ) → is_as_before u (element_of x) (Some x) ≡ true → IsSettled s.program (known_by s) x
-    → IsIdle s x → ForEach (IsUndue s) x → ReadsHold (version_seen s) cs x → evaluated n s u cs (element_of x) (Some x) ≡ 0
-nothing_rests s u cs x n same settled idle undue reads = (tree_rests n s u cs x same settled idle undue reads).0
+-- Nothing is evaluated of a tree whose own element is given again, that is idle, whose instances have each included update done, and in which reads hold.
+pub nothing_rests : (s : Sight) (u : Flag) (cs : Contexts) (x : Node) (n : ℕ) → IsSettled s.program (known_by s) x → IsIdle s x → ForEach (IsUndue s) x → ReadsHold (version_seen s) cs x
+    → evaluated n s u cs (element_of x) (Some x) ≡ 0
+nothing_rests s u cs x n settled idle undue reads = (tree_rests n s u cs x settled idle undue reads).0

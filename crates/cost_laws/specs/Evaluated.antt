@@ -1,98 +1,62 @@
 -- Which bodies a render evaluates: those of components that have a cause, and of those whose element is another one than the committed one, by value. A body is a function of what it is given and what it reads, so any other would give again what it gave.
-use Rattle.std.specs.Prelude.{ℕ, zero, suc, ◌+◌, Bool, true, false, not, ◌&&◌, ◌||◌, cond, List, [], nat_eq, is_some, Option}
+use Rattle.std.specs.Prelude.{ℕ, zero, suc, ◌+◌, Bool, true, false, not, ◌&&◌, ◌||◌, cond, List, [], is_some, Option}
 use Rattle.rx_ctx.specs.Contexts.{none_moved}
-use Rattle.rx_elem.specs.Elements.{Element, stands_for_children}
-use Rattle.rx_elem.specs.Trees.{Node, was_hidden}
+use Rattle.rx_elem.specs.Elements.{Element}
+use Rattle.rx_elem.specs.Trees.{Node}
 use Rattle.rx_meaning.specs.Counts.{Tries, count_part, if_throws, if_waits}
 use Rattle.rx_meaning.specs.Fresh.{Sight, Contexts, Renders, rendered, depth_limit, default_contexts, root_element, render_part, Shape, absent, waiting, throwing, one_list, two_lists, guarded, shape_of}
-use Rattle.rx_meaning.specs.Generations.{generation_below, own_generation}
 use Rattle.rx_meaning.specs.Touched.{component_in}
 use Rattle.cost_laws.specs.Causes.{has_cause}
 use Rattle.cost_laws.specs.Untouched.{is_element_of, is_untouched, moved_below, visible_below}
 
 -- The places above
 
--- What the places above tell of one: the generation of its element, whether its old node is visible, and the contexts that have another value at the place than the committed tree has there.
+-- What the places above tell of one: whether its old node is visible, and the contexts that have another value at the place than the committed tree has there.
 pub record Flag : Type 0 where
-  pub generation : ℕ
   pub visible : Bool
   pub moved : List ℕ
 
--- nothing stands above the root, whose element is always the same
+-- nothing stands above the root
 abbrev pub above_root : Flag
-above_root = record { generation = 0; visible = true; moved = [] }
+above_root = record { visible = true; moved = [] }
 
 -- the old node is visible, and no context has another value at the place
 abbrev pub stood : Flag → Bool
 stood u = u.visible && none_moved u.moved
 
--- the element of a place is the committed one, given again
-abbrev pub is_again : Flag → Element → Option Node → Bool
-is_again u e old = nat_eq u.generation 0 && is_element_of e old
+-- what is told of the children of a node
+abbrev pub below_node : Flag → Element → Option Node → Flag
+below_node u e old = record { visible = visible_below u.visible e old; moved = moved_below u.moved e old }
 
--- the element of a place is as before: it is the committed one, given again, or an equal one of a component
-abbrev pub is_as_before : Flag → Element → Option Node → Bool
-is_as_before u e old = is_again u e old || (is_some (component_in e) && is_element_of e old)
-
--- the place is a component's, and its body is evaluated: the component has a cause, or its element is not as before
-abbrev pub is_evaluated : Sight → Flag → Contexts → Element → Option Node → Bool
-is_evaluated s u cs e old = is_some (component_in e) && (has_cause s cs e old || not (is_as_before u e old))
-
--- what is told of the children of a node of no boundary
-abbrev pub below_node : Sight → Flag → Contexts → Element → Option Node → Flag
-below_node s u cs e old =
-    record {
-      generation = generation_below (is_evaluated s u cs e old) (is_as_before u e old) (stands_for_children e) u.generation;
-      visible = visible_below u.visible e old;
-      moved = moved_below u.moved e old;
-    }
-
--- of the children of a boundary; what it kept while it was hidden was made for another element
-abbrev pub below_boundary : Flag → Element → Option Node → Flag
-below_boundary u e old =
-    record {
-      generation = own_generation (is_again u e old && not (was_hidden old)) u.generation;
-      visible = visible_below u.visible e old;
-      moved = u.moved;
-    }
-
--- of its fallback if its children are not tried, since it is untouched: its element is the committed one, and it stands as the boundary does
-abbrev pub beside_kept : Flag
-beside_kept = record { generation = 0; visible = true; moved = [] }
-
--- of its fallback once its children were tried: it stands as the boundary does
-abbrev pub after_attempt : Flag → Element → Option Node → Flag
-after_attempt u e old = record u { generation = own_generation (is_again u e old) u.generation }
-
--- of its fallback
-abbrev pub in_fallback : Sight → Flag → Element → Option Node → Flag
-in_fallback s u e old = cond (is_untouched s (stood u) e old) beside_kept (after_attempt u e old)
-
--- of the fallback of an error boundary whose children threw: it is made anew, and nothing of it was visible
+-- of the fallback of an error boundary whose children threw: nothing of it was visible
 abbrev pub once_caught : Flag → Flag
-once_caught u = record u { generation = 1; visible = false }
+once_caught u = record u { visible = false }
 
 -- Bodies
 
+-- the place is a component's, and its body is evaluated: the component has a cause, or its element is not equal to the committed one
+abbrev pub is_evaluated : Sight → Contexts → Element → Option Node → Bool
+is_evaluated s cs e old = is_some (component_in e) && (has_cause s cs e old || not (is_element_of e old))
+
 -- the body of a place itself
-abbrev pub own_body : Sight → Flag → Contexts → Element → Option Node → ℕ
-own_body s u cs e old = cond (is_evaluated s u cs e old) 1 0
+abbrev pub own_body : Sight → Contexts → Element → Option Node → ℕ
+own_body s cs e old = cond (is_evaluated s cs e old) 1 0
 
 -- how many bodies are evaluated at a place and below it
 abbrev pub Evaluates : Type 0
 Evaluates = Flag → Contexts → Tries
 
--- at a place and below it, by what stands there
+-- at a place and below it, by what stands there; the fallback of a boundary of Suspense stands as the boundary does
 abbrev pub evaluate_shape : Evaluates → (Contexts → Renders) → Sight → Flag → Contexts → Element → Option Node → Shape → ℕ
 evaluate_shape evaluate below s u cs e old absent = 0
-evaluate_shape evaluate below s u cs e old (waiting r v) = own_body s u cs e old
-evaluate_shape evaluate below s u cs e old (throwing x) = own_body s u cs e old
-evaluate_shape evaluate below s u cs e old (one_list m p) = own_body s u cs e old + count_part (evaluate (below_node s u cs e old)) below p
+evaluate_shape evaluate below s u cs e old (waiting r v) = own_body s cs e old
+evaluate_shape evaluate below s u cs e old (throwing x) = own_body s cs e old
+evaluate_shape evaluate below s u cs e old (one_list m p) = own_body s cs e old + count_part (evaluate (below_node u e old)) below p
 evaluate_shape evaluate below s u cs e old (two_lists p f) =
-    cond (is_untouched s (stood u) e old) 0 (count_part (evaluate (below_boundary u e old)) below p)
-    + if_waits (render_part below p) (count_part (evaluate (in_fallback s u e old)) below f)
+    cond (is_untouched s (stood u) e old) 0 (count_part (evaluate (below_node u e old)) below p)
+    + if_waits (render_part below p) (count_part (evaluate u) below f)
 evaluate_shape evaluate below s u cs e old (guarded p f) =
-    count_part (evaluate (below_node s u cs e old)) below p + if_throws (render_part below p) (count_part (evaluate (once_caught u)) below f)
+    count_part (evaluate (below_node u e old)) below p + if_throws (render_part below p) (count_part (evaluate (once_caught u)) below f)
 
 -- at a place and below it, with so many levels
 unfoldable pub evaluated : ℕ → Sight → Evaluates

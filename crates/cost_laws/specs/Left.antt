@@ -6,7 +6,7 @@ use Rattle.rx_meaning.specs.Counts.{count_part, if_throws, if_waits, try_all, un
 use Rattle.rx_meaning.specs.Cursor.{Open, around, trying, falling, guarding, Frame, Cursor, at_place, at_end, ended, finished}
 use Rattle.rx_meaning.specs.Fresh.{Sight, Contexts, Renders, Place, made, Places, rendered, Shape, absent, waiting, throwing, one_list, two_lists, guarded, shape_of}
 use Rattle.rx_meaning.specs.Rest.{from_open, list_from}
-use Rattle.cost_laws.specs.Evaluated.{Evaluates, Flag, above_root, after_attempt, below_boundary, below_node, evaluated, once_caught, own_body, stood, whole_evaluated}
+use Rattle.cost_laws.specs.Evaluated.{Evaluates, Flag, above_root, below_node, evaluated, once_caught, own_body, stood, whole_evaluated}
 use Rattle.cost_laws.specs.Untouched.{is_untouched}
 
 -- for each list that is open, innermost first, what is told of its places
@@ -26,7 +26,7 @@ outer (u ∷ us) = us
 -- what an open node evaluates once its list is done, waits or throws, by what is told of its own place: a boundary's fallback
 abbrev pub evaluate_open : Evaluates → (Contexts → Renders) → Flag → Open → Places → ℕ
 evaluate_open evaluate below u (around e m) ps = 0
-evaluate_open evaluate below u (trying e old f) ps = if_waits ps (count_part (evaluate (after_attempt u e old)) below f)
+evaluate_open evaluate below u (trying e old f) ps = if_waits ps (count_part (evaluate u) below f)
 evaluate_open evaluate below u (falling e old a) ps = 0
 evaluate_open evaluate below u (guarding e f) ps = if_throws ps (count_part (evaluate (once_caught u)) below f)
 
@@ -49,7 +49,7 @@ left_evaluated s us (ended p) = 0
 -- what a wait leaves of the flags: those from the fallback of the nearest boundary on that tries its children
 abbrev pub unwound_by : Open → Flags → Flags → Flags
 unwound_by (around e m) us out = out
-unwound_by (trying e old f) us out = after_attempt (flag (outer us)) e old ∷ outer us
+unwound_by (trying e old f) us out = flag (outer us) ∷ outer us
 unwound_by (falling e old a) us out = out
 unwound_by (guarding e f) us out = out
 
@@ -71,38 +71,38 @@ thrown_past [] us = []
 thrown_past (f ∷ fs) us = thrown_by f.node us (thrown_past fs (outer us))
 
 -- the flags once a place has begun, by what stands there
-abbrev pub begun_flags : Sight → List Frame → Flags → Contexts → Element → Option Node → Shape → Flags
-begun_flags s fs us cs e old absent = us
-begun_flags s fs us cs e old (waiting r v) = unwound fs us
-begun_flags s fs us cs e old (throwing x) = thrown_past fs us
-begun_flags s fs us cs e old (one_list m p) = below_node s (flag us) cs e old ∷ us
-begun_flags s fs us cs e old (two_lists p f) = below_boundary (flag us) e old ∷ us
-begun_flags s fs us cs e old (guarded p f) = below_node s (flag us) cs e old ∷ us
+abbrev pub begun_flags : List Frame → Flags → Element → Option Node → Shape → Flags
+begun_flags fs us e old absent = us
+begun_flags fs us e old (waiting r v) = unwound fs us
+begun_flags fs us e old (throwing x) = thrown_past fs us
+begun_flags fs us e old (one_list m p) = below_node (flag us) e old ∷ us
+begun_flags fs us e old (two_lists p f) = below_node (flag us) e old ∷ us
+begun_flags fs us e old (guarded p f) = below_node (flag us) e old ∷ us
 
 -- the flags after a unit
 abbrev pub unit_flags : Sight → Flags → Cursor → Flags
 unit_flags s us (at_place zero fs cs e old) = us
-unit_flags s us (at_place (suc levels) fs cs e old) = begun_flags s fs us cs e old (shape_of s cs e old)
+unit_flags s us (at_place (suc levels) fs cs e old) = begun_flags fs us e old (shape_of s cs e old)
 unit_flags s us (at_end levels fs o done) = outer us
 unit_flags s us (ended p) = us
 
 -- What a unit evaluates
 
 -- the body of a place that begins, by what stands there
-abbrev pub begins_evaluated : Sight → Flag → Contexts → Element → Option Node → Shape → ℕ
-begins_evaluated s u cs e old absent = 0
-begins_evaluated s u cs e old (waiting r v) = own_body s u cs e old
-begins_evaluated s u cs e old (throwing x) = own_body s u cs e old
-begins_evaluated s u cs e old (one_list m p) = own_body s u cs e old
-begins_evaluated s u cs e old (two_lists p f) = 0
-begins_evaluated s u cs e old (guarded p f) = 0
+abbrev pub begins_evaluated : Sight → Contexts → Element → Option Node → Shape → ℕ
+begins_evaluated s cs e old absent = 0
+begins_evaluated s cs e old (waiting r v) = own_body s cs e old
+begins_evaluated s cs e old (throwing x) = own_body s cs e old
+begins_evaluated s cs e old (one_list m p) = own_body s cs e old
+begins_evaluated s cs e old (two_lists p f) = 0
+begins_evaluated s cs e old (guarded p f) = 0
 
 -- the bodies that the next unit evaluates
-abbrev pub next_evaluated : Sight → Flags → Cursor → ℕ
-next_evaluated s us (at_place zero fs cs e old) = 0
-next_evaluated s us (at_place (suc levels) fs cs e old) = begins_evaluated s (flag us) cs e old (shape_of s cs e old)
-next_evaluated s us (at_end levels fs o done) = 0
-next_evaluated s us (ended p) = 0
+abbrev pub next_evaluated : Sight → Cursor → ℕ
+next_evaluated s (at_place zero fs cs e old) = 0
+next_evaluated s (at_place (suc levels) fs cs e old) = begins_evaluated s cs e old (shape_of s cs e old)
+next_evaluated s (at_end levels fs o done) = 0
+next_evaluated s (ended p) = 0
 
 -- an untouched boundary's children are not tried
 abbrev pub MayTry : Sight → Flag → Element → Option Node → Shape → Type 0

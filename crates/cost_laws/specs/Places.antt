@@ -6,7 +6,7 @@ use Rattle.rx_elem.specs.Trees.{Node}
 use Rattle.rx_meaning.specs.Fresh.{Sight, Contexts, Renders, rendered, depth_limit, default_contexts, root_element, Part, Shape, absent, waiting, throwing, one_list, two_lists, guarded, shape_of, render_part}
 use Rattle.rx_meaning.specs.Touched.{Address, children_with_old, ends_list, is_throw, is_wait}
 use Rattle.cost_laws.specs.Causes.{has_cause, is_dirty}
-use Rattle.cost_laws.specs.Evaluated.{Flag, above_root, below_boundary, below_node, in_fallback, is_evaluated, once_caught, stood}
+use Rattle.cost_laws.specs.Evaluated.{Flag, above_root, below_node, is_evaluated, once_caught, stood}
 use Rattle.cost_laws.specs.Untouched.{is_retried, is_untouched}
 
 -- a place that a render comes to, what untouched boundaries keep apart
@@ -49,7 +49,7 @@ abbrev pub coming_here : Sight → Above → Contexts → Element → Option Nod
 coming_here s a cs e old =
     record {
       address = a.address;
-      evaluated = is_evaluated s a.flag cs e old;
+      evaluated = is_evaluated s cs e old;
       caused = has_cause s cs e old;
       dirty = is_dirty s cs e old;
       retried = is_retried s (stood a.flag) e old;
@@ -66,15 +66,15 @@ come_shape come below s a cs e old absent = []
 come_shape come below s a cs e old (waiting r v) = coming_here s a cs e old ∷ []
 come_shape come below s a cs e old (throwing x) = coming_here s a cs e old ∷ []
 come_shape come below s a cs e old (one_list m p) =
-    coming_here s a cs e old ∷ come_part come below (above_with a s cs e old (below_node s a.flag cs e old)) p
+    coming_here s a cs e old ∷ come_part come below (above_with a s cs e old (below_node a.flag e old)) p
 come_shape come below s a cs e old (two_lists p f) =
-    let primary = above_with a s cs e old (below_boundary a.flag e old) in
-    let second = above_with a s cs e old (in_fallback s a.flag e old) in
+    let primary = above_with a s cs e old (below_node a.flag e old) in
+    let second = above_with a s cs e old a.flag in
     coming_here s a cs e old
     ∷ ((if is_untouched s (stood a.flag) e old then [] else come_part come below (record primary { address = 0 ∷ a.address }) p)
     ++ (if is_wait (render_part below p) then come_part come below (record second { address = 1 ∷ a.address }) f else []))
 come_shape come below s a cs e old (guarded p f) =
-    let primary = above_with a s cs e old (below_node s a.flag cs e old) in
+    let primary = above_with a s cs e old (below_node a.flag e old) in
     let second = above_with a s cs e old (once_caught a.flag) in
     coming_here s a cs e old
     ∷ (come_part come below (record primary { address = 0 ∷ a.address }) p

@@ -13,7 +13,7 @@ ghost use Rattle.rx_meaning.specs.Settled.{DoneBefore, IfSettled, IsSettled, Rea
 ghost use Rattle.commit_laws.specs.Each.{ForEach};
 ghost use Rattle.commit_laws.specs.Idle.{IsIdle};
 ghost use Rattle.render_laws.specs.SameSight.{SeesSame, AllAfter};
-ghost use Rattle.cost_laws.specs.Evaluated.{Flag, beside_kept, evaluated, is_as_before, stood, whole_evaluated};
+ghost use Rattle.cost_laws.specs.Evaluated.{Flag, evaluated, stood, whole_evaluated};
 ghost use Rattle.cost_laws.specs.Left.{Costs, Flags, flag, MayGo, next_evaluated, unit_flags};
 ghost use Rattle.cost_laws.specs.Places.{AllApart, AreEvaluated, dirty_places, evaluated_places, whole_comings};
 ghost use Rattle.cost_laws.specs.SameWork.{SeesSameWork};
@@ -27,7 +27,7 @@ ghost use Rattle.cost_laws.specs.Untouched.{is_untouched};
 pub fn bodies_are_counted()
     ensures start { (s : Sight) (old : Option Node) → Costs s old 0 [] (start s old) }
     ensures unit { (s : Sight) (old : Option Node) (bodies evaluated : ℕ) (us : Flags) (c : Cursor) → MayGo s us c → Costs s old bodies us c
-        → evaluated ≡ next_evaluated s us c → Costs s old (bodies + evaluated) (unit_flags s us c) (unit s c) }
+        → evaluated ≡ next_evaluated s c → Costs s old (bodies + evaluated) (unit_flags s us c) (unit s c) }
     ensures takes_over { (s : Sight) (old : Option Node) (bodies n : ℕ) (us : Flags) (fs : List Frame) (cs : Contexts) (e : Element) (o : Node)
         → rendered n s cs e (Some o) ≡ made o → evaluated n s (flag us) cs e (Some o) ≡ 0
         → Costs s old bodies us (at_place n fs cs e (Some o)) → Costs s old bodies us (arrive n fs (Some o)) }
@@ -35,7 +35,7 @@ pub fn bodies_are_counted()
         (o : Option Node) (p f : Part) (a : Awaits) → shape_of s cs e o ≡ two_lists p f
         → render_part (rendered n s) p ≡ one_waits a → is_untouched s (stood (flag us)) e o ≡ true
         → Costs s old bodies us (at_place (suc n) fs cs e o)
-        → Costs s old bodies (beside_kept ∷ us) (open_part n fs (falling e o a) f) }
+        → Costs s old bodies (flag us ∷ us) (open_part n fs (falling e o a) f) }
     ensures later { (s : Sight) (j : Journal) (old : Option Node) (bodies : ℕ) (us : Flags) (c : Cursor) → SeesSame s j → SeesSameWork s j
         → Costs s old bodies us c → Costs (record s { journal = j }) old bodies us c }
     ensures longer { (s : Sight) (new : List Posted) (more : List Resolution) → AllAfter s.cut.updates new → AllOpen new
@@ -51,10 +51,10 @@ pub fn bodies_are_counted()
     // The places that are evaluated are exactly the dirty ones.
     ensures exact { (s : Sight) (old : Option Node) → IfSome old (λ x. element_of x ≡ root_element s.program) → evaluated_places s old ≡ dirty_places s old }
     ensures fewer { (s : Sight) (old : Option Node) → whole_evaluated s old ≤ whole each_body s old }
-    // Nothing is evaluated of a tree whose element is as before, that is idle, whose instances have each included update done, and
-    // in which reads hold.
-    ensures rests { (s : Sight) (u : Flag) (cs : Contexts) (x : Node) (n : ℕ) → is_as_before u (element_of x) (Some x) ≡ true → IsSettled s.program (known_by s) x
-        → IsIdle s x → ForEach (IsUndue s) x → ReadsHold (version_seen s) cs x → evaluated n s u cs (element_of x) (Some x) ≡ 0 }
+    // Nothing is evaluated of a tree whose own element is given again, that is idle, whose instances have each included update
+    // done, and in which reads hold.
+    ensures rests { (s : Sight) (u : Flag) (cs : Contexts) (x : Node) (n : ℕ) → IsSettled s.program (known_by s) x → IsIdle s x
+        → ForEach (IsUndue s) x → ReadsHold (version_seen s) cs x → evaluated n s u cs (element_of x) (Some x) ≡ 0 }
     ensures undue_later { (s : Sight) (j : Journal) (m : Mark) → SeesSameWork s j → IsUndue s m → IsUndue (record s { journal = j }) m }
 {}
 
