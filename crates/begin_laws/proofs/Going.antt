@@ -105,7 +105,7 @@ told_stood t st id us fits h k v o rs here moves =
     let moved : (flag us).moved ≡ moved_at st =
     flagged_moved t.current h.flags.around h.flags.rest us h.flags.flagged ∙ (ap (moved_along t.current) around ∙ ap moved_in (sym moves))
     in
-    ap (λ b. b && none_moved (moved_at st)) (ap (λ u. is_visible u.stage) (sym same) ∙ h.told.1) ∙ ap (λ ms. (flag us).visible && none_moved ms) (sym moved)
+    ap (λ b. b && none_moved (moved_at st)) (ap (λ u. is_visible u.stage) (sym same) ∙ h.told) ∙ ap (λ ms. (flag us).visible && none_moved ms) (sym moved)
 
 -- a node is done: the render comes to what follows it in its list
 pub after_node : (t : Trees Fiber) (k : Around Fiber) (q : ℕ) (v : Fiber) (o : Option ℕ) (kids rest : Draft Fiber) (us : Flags) → t.draft ≡ placed k (made q v o kids rest) → IsFlagged t.current k rest us

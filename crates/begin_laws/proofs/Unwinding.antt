@@ -2,31 +2,27 @@
 use Rattle.std.specs.Prelude.{◌≡◌, ℕ, ℤ, Bool, true, List, ◌∷◌, Option, Some}
 use Rattle.std.proofs.Common.{refl, sym, ap, ◌∙◌, subst}
 use Rattle.rx_ctx.specs.Contexts.{Stack}
-use Rattle.rx_elem.specs.Trees.{Node}
 use Rattle.rx_lists.specs.Shapes.{Shape}
 use Rattle.rx_lists.specs.Shapes as shapes
 use Rattle.rx_links.specs.Drafts.{Draft, taken, made, Trees, Fits}
 use Rattle.rx_links.specs.Places.{Around, top, below, after, placed}
 use Rattle.rx_meaning.specs.Fresh.{Contexts}
 use Rattle.rx_meaning.specs.Cursor.{Open, Frame}
-use Rattle.rx_fiber.specs.Fibers.{Fiber, Stage, generation_of, origin_of}
-use Rattle.rx_fiber.specs.Reading.{IsOld}
+use Rattle.rx_fiber.specs.Fibers.{Fiber, Stage, origin_of}
 use Rattle.rx_fiber.specs.Surround.{above_list, given_along, moved_along, IsOpenAs, opens, tries, falls, guards, IsAround, IsListOf, of_node, of_fallback}
 use Rattle.rx_fiber.specs.Surround as surround
 use Rattle.rx_fiber.specs.Unwound.{IsWithin, is_guarding, is_trying}
 use Rattle.rx_complete.specs.Ends.{Outer, nearest, nearest_catch, nearest_where}
-use Rattle.cost_laws.specs.Evaluated.{after_attempt, once_caught}
+use Rattle.cost_laws.specs.Evaluated.{once_caught}
 use Rattle.cost_laws.specs.Left.{Flags, flag, outer, thrown_by, thrown_past, unwound, unwound_by}
 use Rattle.begin_laws.specs.Flagged.{IsFlagged, at_root, inside, FlagsHere, HasThrown, HasUnwound, KeepsTold}
 use Rattle.begin_laws.proofs.Once.{same_around}
 
 -- what a wait comes to, in these flags
 record Out (c : Shape Fiber) (u : Outer) (vs : Flags) : Type 0 where
-  pub node : Option Node
-  pub was : IsOld c u.old node
   pub flagged : IsFlagged c u.around u.rest (outer vs)
-  pub some : vs ≡ after_attempt (flag (outer vs)) u.value.element node ∷ outer vs
-  pub kept : (generation_of u.value.stage ≡ (flag (outer vs)).generation) × ((origin_of u.value.stage).visible ≡ (flag (outer vs)).visible)
+  pub some : vs ≡ flag (outer vs) ∷ outer vs
+  pub kept : (origin_of u.value.stage).visible ≡ (flag (outer vs)).visible
 
 -- what a throw comes to, in these flags
 record CaughtOut (c : Shape Fiber) (u : Outer) (vs : Flags) : Type 0 where
@@ -47,18 +43,11 @@ open_out : (c : Shape Fiber) (ms : List ℕ) (ws : List (ℕ × ℤ)) (v : Fiber
 open_out c ms ws v o cs _ (opens {m = m} element mark shown) q rest k us vs u out near further = further (rw mark at near)
 open_out c ms ws v o cs _ (falls element mark gone) q rest k us vs u out near further = further (rw mark at near)
 open_out c ms ws v o cs _ (guards element s is) q rest k us vs u out near further = further (rw s at near)
-open_out c ms ws v o cs _ (tries {e = e} {old = old} element s is was stands) q rest k us vs u out near further =
+open_out c ms ws v o cs _ (tries element s is was stands) q rest k us vs u out near further =
     let b : is_trying v.stage ≡ true = ap is_trying s in
     let same_outer : Some (record { around = k; id = q; value = v; old = o; rest = rest }) ≡ Some u = rw b at near in
     let same : record { around = k; id = q; value = v; old = o; rest = rest } ≡ u = cc in
-    subst (λ (w : Outer). Out c w (after_attempt (flag (outer us)) e old ∷ outer us)) same
-    (record {
-      node = old;
-      was = was;
-      flagged = out.0;
-      some = ap (λ x. after_attempt (flag (outer us)) x old ∷ outer us) (sym element);
-      kept = out.1 b;
-    })
+    subst (λ (w : Outer). Out c w (flag (outer us) ∷ outer us)) same (record { flagged = out.0; some = refl; kept = out.1 b })
 
 around_is : (c : Shape Fiber) (k : Around Fiber) (d : Draft Fiber) (us : Flags) (l : Around Fiber) → above_list k ≡ l → IsFlagged c k d us → (q : ℕ) (v : Fiber) (o : Option ℕ) (rest : Draft Fiber) (k₁ : Around Fiber) → l ≡ below q v o rest k₁
     → Above c k₁ rest v (outer us)
@@ -108,13 +97,11 @@ mutual
       goes_out c k₁ k₁ v.place rest fs rest (outer us) around refl (ahead c k₁ rest (outer us) b v o (taken kept) out.0) u (rw st at further)
 
 pub unwinds : (t new : Trees Fiber) (st : Stack) (p : ℕ) (kids : Draft Fiber) (fs : List Frame) (us : Flags) → Fits t → (h : FlagsHere t p kids us) → IsWithin t st p fs
-    → (u : Outer) → nearest h.around ≡ Some u → new.draft ≡ placed u.around (made u.id u.value u.old (taken shapes.none) u.rest) → new.current ≡ t.current → HasUnwound t new u.id u.value u.old fs us
+    → (u : Outer) → nearest h.around ≡ Some u → new.draft ≡ placed u.around (made u.id u.value u.old (taken shapes.none) u.rest) → new.current ≡ t.current → HasUnwound new u.id u.value fs us
 unwinds t new st p kids fs us fits h w u near here current =
     let same : h.around ≡ w.around = same_around t fits p h.around h.value h.old kids h.rest h.here w.around w.value w.old w.kids w.rest w.here in
     let out = goes_out t.current w.beside h.around w.place w.later fs h.rest us w.surrounds (ap above_list same ∙ w.same_list) h.flagged u near in
     record {
-      node = out.node;
-      was = out.was;
       flags = record { around = u.around; value = u.value; old = u.old; rest = u.rest; here = here; flagged = subst (λ c. IsFlagged c u.around u.rest (outer (unwound fs us))) (sym current) out.flagged };
       some = out.some;
       kept = out.kept;

@@ -1,32 +1,30 @@
--- What is told of lists of fibers in progress: of which generation their elements are, whether their old nodes are visible, and which contexts have other values there; and what that tells of the fibers that wait there.
+-- What is told of lists of fibers in progress: whether their old nodes are visible, and which contexts have other values there; and what that tells of the fibers that wait there.
 use Rattle.std.specs.Prelude.{◌≡◌, ℕ, true, [], ◌∷◌, List, Option, Some, None}
 use Rattle.rx_lists.specs.Shapes.{Shape}
 use Rattle.rx_lists.specs.Shapes as shapes
 use Rattle.rx_links.specs.Drafts.{Draft, taken, made, Trees}
 use Rattle.rx_links.specs.Places.{Around, top, below, placed}
 use Rattle.rx_meaning.specs.Cursor.{Frame}
-use Rattle.rx_elem.specs.Trees.{Node}
-use Rattle.rx_fiber.specs.Fibers.{Fiber, generation_of, is_visible, origin_of}
-use Rattle.rx_fiber.specs.Reading.{IsOld}
+use Rattle.rx_fiber.specs.Fibers.{Fiber, is_visible, origin_of}
 use Rattle.rx_fiber.specs.Surround.{above_list, moved_along}
 use Rattle.rx_fiber.specs.Unwound.{is_trying}
 use Rattle.rx_complete.specs.declared.completing.Next.{Next}
 use Rattle.rx_complete.specs.declared.completing.Next.TheVariants.{Sibling, Parent, Done}
-use Rattle.cost_laws.specs.Evaluated.{Flag, above_root, after_attempt, once_caught}
+use Rattle.cost_laws.specs.Evaluated.{Flag, above_root, once_caught}
 use Rattle.cost_laws.specs.Left.{Flags, flag, outer, thrown_past, unwound}
 
--- a fiber that waits is as a flag tells: its element is of the generation of the place, and its current fiber is visible exactly if the old node is
+-- a fiber that waits is as a flag tells: its current fiber is visible exactly if the old node is
 abbrev pub IsTold : Flag → Fiber → Type 0
-IsTold u v = (generation_of v.stage ≡ u.generation) × (is_visible v.stage ≡ u.visible)
+IsTold u v = is_visible v.stage ≡ u.visible
 
 -- so is each fiber of a list in progress
 abbrev pub AreTold : Flag → Draft Fiber → Type 0
 AreTold u (taken s) = Unit {0}
 AreTold u (made id v o ks rs) = IsTold u v × AreTold u rs
 
--- a fiber that tries its children keeps what a flag tells of its place: the generation, and whether the old node is visible
+-- a fiber that tries its children keeps what a flag tells of its place: whether the old node is visible
 abbrev pub KeepsTold : Flag → Fiber → Type 0
-KeepsTold u v = is_trying v.stage ≡ true → (generation_of v.stage ≡ u.generation) × ((origin_of v.stage).visible ≡ u.visible)
+KeepsTold u v = is_trying v.stage ≡ true → (origin_of v.stage).visible ≡ u.visible
 
 -- the fibers of a list in progress have no children
 abbrev pub AllBare : Draft Fiber → Type 0
@@ -75,13 +73,11 @@ abbrev pub FlagsOpened : Trees Fiber → (q : ℕ) → Flags → (first : Option
 FlagsOpened t q us None = FlagsAtEnd t q us
 FlagsOpened t q us (Some id) = FlagsAtPlace t id us
 
--- A wait has stopped at the boundary of a fiber: its fallback has the flag of one after an attempt, as the boundary's own flag tells, which the fiber has kept.
-pub record HasUnwound (t new : Trees Fiber) (q : ℕ) (v : Fiber) (old : Option ℕ) (fs : List Frame) (us : Flags) : Type 0 where
-  pub node : Option Node
-  pub was : IsOld t.current old node
+-- A wait has stopped at the boundary of a fiber: its fallback has the boundary's own flag, which the fiber has kept.
+pub record HasUnwound (new : Trees Fiber) (q : ℕ) (v : Fiber) (fs : List Frame) (us : Flags) : Type 0 where
   pub flags : FlagsHere new q (taken shapes.none) (outer (unwound fs us))
-  pub some : unwound fs us ≡ after_attempt (flag (outer (unwound fs us))) v.element node ∷ outer (unwound fs us)
-  pub kept : (generation_of v.stage ≡ (flag (outer (unwound fs us))).generation) × ((origin_of v.stage).visible ≡ (flag (outer (unwound fs us))).visible)
+  pub some : unwound fs us ≡ flag (outer (unwound fs us)) ∷ outer (unwound fs us)
+  pub kept : (origin_of v.stage).visible ≡ (flag (outer (unwound fs us))).visible
 
 -- A throw has stopped at the error boundary of a fiber: its fallback has the flag of one that is made anew, as the boundary's own flag tells.
 pub record HasThrown (new : Trees Fiber) (q : ℕ) (fs : List Frame) (us : Flags) : Type 0 where

@@ -1,7 +1,6 @@
 -- What the kept hooks tell of the causes at a place, and what the beginning of a place tells of the bodies that it evaluates.
-use Rattle.std.specs.Prelude.{◌≡◌, ℕ, Bool, true, false, not, ◌&&◌, List, Option, Some, None, IsSome, is_some, option_and_then}
+use Rattle.std.specs.Prelude.{◌≡◌, ℕ, Bool, true, false, not, List, Option, Some, None, IsSome, is_some, option_and_then}
 use Rattle.rx_base.specs.Awaits.{Awaits}
-use Rattle.rx_elem.specs.Elements.{stands_for_children}
 use Rattle.rx_elem.specs.Trees.{Node, children_of, instance_in, mark_of, of_boundary}
 use Rattle.rx_ctx.specs.Contexts.{Stack}
 use Rattle.rx_susp.specs.declared.boundary.BoundaryState.TheVariants.{Hidden}
@@ -9,8 +8,7 @@ use Rattle.rx_hooks.specs.declared.hook.Hook.{Hook}
 use Rattle.rx_links.specs.Drafts.{Trees, old_of}
 use Rattle.rx_links.specs.Readers.{made_value_of}
 use Rattle.rx_meaning.specs.Fresh.{Contexts, Sight}
-use Rattle.rx_meaning.specs.Generations.{generation_below}
-use Rattle.rx_fiber.specs.Fibers.{Fiber, generation_of}
+use Rattle.rx_fiber.specs.Fibers.{Fiber}
 use Rattle.rx_fiber.specs.declared.stage.Origin.{Origin}
 use Rattle.rx_fiber.specs.Standing.{is_stood}
 use Rattle.rx_fiber.specs.Surround.{IsElementOf}
@@ -20,7 +18,7 @@ use Rattle.commit_laws.specs.Each as marks
 use Rattle.rx_ways.specs.Ways.{Covers}
 use Rattle.rx_causes.specs.Hidden.{ForEachIn, HasCauseToTry}
 use Rattle.rx_causes.specs.Idle.{Rests}
-use Rattle.rx_causes.specs.Marks.{EachBut, keeps_children, mark_at}
+use Rattle.rx_causes.specs.Marks.{EachBut, mark_at}
 use Rattle.rx_causes.specs.Scenes.{IsSceneOf, TellsCalm, TellsNews}
 use Rattle.rx_causes.specs.declared.scene.Scene.{Scene}
 use Rattle.cost_laws.specs.Causes.{is_called, waits_still}
@@ -53,14 +51,11 @@ abbrev pub TellsTries : Scene → (kept : ℕ → Option (List Hook)) → Trees 
 TellsTries scene kept t st id =
     (v : Fiber) → Some v ≡ made_value_of t.draft id → parts_in v.element ≡ None → IsElementOf t.current (old_of t.draft id) v.element → is_stood st v.stage ≡ true → IsCauseToTry scene kept t id
 
--- A fiber is begun over these children: their old ones are visible exactly if the fiber is steady, and they are of the generation below it.
-pub record OpensKids (t new : Trees Fiber) (id : ℕ) (evaluated : Bool) : Type 0 where
+-- A fiber is begun over these children: their old ones are visible exactly if the fiber is steady.
+pub record OpensKids (t new : Trees Fiber) (id : ℕ) : Type 0 where
   pub value : Fiber
   pub is : Some value ≡ made_value_of t.draft id
   pub origin : Origin
   pub steadiness : TellsSteady t.current (old_of t.draft id) value origin.visible
-  pub again : Bool
-  pub telling : TellsAgain (is_some (parts_in value.element)) t.current (old_of t.draft id) value again
-  pub generation : origin.generation ≡ generation_below evaluated (again && keeps_children true (mark_at t.current (old_of t.draft id))) (stands_for_children value.element) (generation_of value.stage)
   pub kids : HasKids origin t new id
   pub current : new.current ≡ t.current

@@ -31,7 +31,7 @@ pub fn flags_are_kept()
         → new.current ≡ t.current → KeepsTold (flag us) w → AllBare kids → AreTold u kids → FlagsOpened new id (u ∷ us) (entry kids) }
     ensures unwinds { (t new : Trees Fiber) (st : Stack) (p : ℕ) (kids : Draft Fiber) (fs : List Frame) (us : Flags) → Fits t → (h : FlagsHere t p kids us) → IsWithin t st p fs
         → (u : Outer) → nearest h.around ≡ Some u → new.draft ≡ placed u.around (made u.id u.value u.old (taken shapes.none) u.rest) → new.current ≡ t.current
-        → HasUnwound t new u.id u.value u.old fs us }
+        → HasUnwound new u.id u.value fs us }
     ensures throws_out { (t new : Trees Fiber) (st : Stack) (p : ℕ) (kids : Draft Fiber) (fs : List Frame) (us : Flags) → Fits t → (h : FlagsHere t p kids us) → IsWithin t st p fs
         → (u : Outer) → nearest_catch h.around ≡ Some u → new.draft ≡ placed u.around (made u.id u.value u.old (taken shapes.none) u.rest) → new.current ≡ t.current
         → HasThrown new u.id fs us }

@@ -9,7 +9,6 @@ ghost use Rattle.rx_links.specs.Drafts.{Fits, Trees, entry};
 ghost use Rattle.rx_meaning.specs.Counts.{each_body, next_counts};
 ghost use Rattle.rx_meaning.specs.Cursor.{Frame, at_place};
 ghost use Rattle.rx_meaning.specs.Fresh.{Contexts, Sight, shape_of};
-ghost use Rattle.rx_meaning.specs.Settled.{IfSettled, known_by};
 ghost use Rattle.rx_fiber.specs.Fibers.{Fiber};
 ghost use Rattle.rx_fiber.specs.Standing.{StandsAt};
 ghost use Rattle.rx_causes.specs.declared.scene.Scene.{Scene};
@@ -26,16 +25,15 @@ ghost use Rattle.begin_laws.specs.Telling.{OpensKids, TellsBody, TellsCauses, Te
 /// A unit that begins a place evaluates its body exactly if that is told, and tries no untouched boundary; it opens lists whose
 /// fibers are as their flags tell.
 pub fn places_cost()
-    ensures bodies { (s : Sight) (scene : Scene) (kept : ℕ → Option (List Hook)) (t : Trees Fiber) (st : Stack) (id n : ℕ) (fs : List Frame) (cs : Contexts) (e : Element) (old : Option Node) (us : Flags) (evaluated : Bool)
-        → IsSceneOf scene s → Fits t → StandsAt t st (Some id) (at_place (suc n) fs cs e old) → TellsIf s kept old → FlagsAtPlace t id us → TellsBody scene kept t cs id evaluated
+    ensures bodies { (s : Sight) (scene : Scene) (kept : ℕ → Option (List Hook)) (t : Trees Fiber) (st : Stack) (id n : ℕ) (fs : List Frame) (cs : Contexts) (e : Element) (old : Option Node) (evaluated : Bool)
+        → IsSceneOf scene s → Fits t → StandsAt t st (Some id) (at_place (suc n) fs cs e old) → TellsIf s kept old → TellsBody scene kept t cs id evaluated
         → (if evaluated then 1 else 0) ≤ next_counts each_body s (at_place (suc n) fs cs e old)
-        → (if evaluated then 1 else 0) ≡ next_evaluated s us (at_place (suc n) fs cs e old) }
+        → (if evaluated then 1 else 0) ≡ next_evaluated s (at_place (suc n) fs cs e old) }
     ensures tries { (s : Sight) (scene : Scene) (kept : ℕ → Option (List Hook)) (t : Trees Fiber) (st : Stack) (id n : ℕ) (fs : List Frame) (cs : Contexts) (e : Element) (old : Option Node) (us : Flags)
         → IsSceneOf scene s → Fits t → StandsAt t st (Some id) (at_place (suc n) fs cs e old) → TellsIf s kept old → FlagsAtPlace t id us → TellsTries scene kept t st id
         → MayGo s us (at_place (suc n) fs cs e old) }
-    ensures opens { (s : Sight) (scene : Scene) (kept : ℕ → Option (List Hook)) (t new : Trees Fiber) (st : Stack) (id n : ℕ) (fs : List Frame) (cs : Contexts) (e : Element) (old : Option Node) (us : Flags) (evaluated : Bool)
-        → IsSceneOf scene s → Fits t → StandsAt t st (Some id) (at_place (suc n) fs cs e old) → IfSettled s.program (known_by s) old → TellsIf s kept old → FlagsAtPlace t id us → TellsBody scene kept t cs id evaluated
-        → MayGo s us (at_place (suc n) fs cs e old) → HasLists (shape_of s cs e old) → (k : OpensKids t new id evaluated)
+    ensures opens { (s : Sight) (t new : Trees Fiber) (st : Stack) (id n : ℕ) (fs : List Frame) (cs : Contexts) (e : Element) (old : Option Node) (us : Flags)
+        → Fits t → StandsAt t st (Some id) (at_place (suc n) fs cs e old) → FlagsAtPlace t id us → HasLists (shape_of s cs e old) → (k : OpensKids t new id)
         → FlagsOpened new id (unit_flags s us (at_place (suc n) fs cs e old)) (entry k.kids.kids) }
 {}
 
