@@ -1,5 +1,5 @@
 -- Where a unit of each kind comes to.
-use Rattle.std.specs.Prelude.{◌≡◌, ℕ, ℤ, zero, suc, ◌+◌, ◌≤◌, Bool, true, false, ◌&&◌, List, [], ◌∷◌, filter, nat_eq, Option, Some, None, Result, Ok, Err, IfOk, OnOk, OnErr, is_some, refl}
+use Rattle.std.specs.Prelude.{◌≡◌, ℕ, ℤ, zero, suc, ◌+◌, ◌≤◌, Bool, true, false, ◌&&◌, List, [], ◌∷◌, filter, nat_eq, Option, Some, None, Result, Ok, Err, IfOk, OnOk, OnErr, refl}
 use Rattle.std.specs.List.{range_with_len}
 use Rattle.std.proofs.Common.{sym, ap, ◌∙◌, subst, arith, add-one}
 use Rattle.rx_base.specs.Awaits.{Awaits, one, nothing, awaits_where}
@@ -12,13 +12,13 @@ use Rattle.rx_elem.specs.Trees as trees
 use Rattle.rx_hooks.specs.declared.hook.Hook.{Hook}
 use Rattle.rx_lists.specs.Shapes as shapes
 use Rattle.rx_elem.proofs.Equality.{same_element-self}
-use Rattle.rx_links.specs.Drafts.{Fits, Trees, Makes, made, taken, old_of, valued}
+use Rattle.rx_links.specs.Drafts.{Fits, Trees, Makes, taken, old_of, valued}
 use Rattle.rx_links.specs.Readers.{IsLinked, made_value_in, made_value_of}
 use Rattle.rx_links.proofs.Placed.{is-at}
 use Rattle.rx_meaning.specs.Fresh.{Sight, Contexts, part, shape_of, throwing, waiting}
 use Rattle.rx_meaning.specs.Cursor.{Open, falling, Frame, Cursor, at_place, at_end, ended, open_part, arrive, unit, unwind, unwind_throw}
 use Rattle.rx_meaning.specs.Counts.{each_body, next_counts}
-use Rattle.rx_fiber.specs.Fibers.{Fiber, generation_of, waiting as waits_with}
+use Rattle.rx_fiber.specs.Fibers.{Fiber, waiting as waits_with}
 use Rattle.rx_fiber.specs.Passed.{IsPassed}
 use Rattle.rx_fiber.specs.Reading.{IsOld}
 use Rattle.rx_fiber.specs.FiberView.{changed}
@@ -46,10 +46,9 @@ use Rattle.rx_fallback.specs.declared.opening.Opened.{Opened}
 use Rattle.rx_fallback.specs.declared.opening.Opened.TheVariants.{First, Empty}
 use Rattle.commit_laws.specs.Each as marks
 use Rattle.rx_meaning.specs.Again.{AreUnresolved}
-use Rattle.rx_meaning.specs.Settled.{IfSettled, known_by}
 use Rattle.rx_causes.specs.Idle.{Rests}
 use Rattle.rx_causes.specs.Marks.{EachBut}
-use Rattle.cost_laws.specs.Evaluated.{beside_kept, is_as_before, stood}
+use Rattle.cost_laws.specs.Evaluated.{stood}
 use Rattle.begin_laws.proofs.Going.{told_stood}
 use Rattle.cost_laws.specs.Causes.{waits_still}
 use Rattle.cost_laws.specs.Left.{Flags, flag, outer}
@@ -62,9 +61,6 @@ use Rattle.rx_render.specs.Costing as paying
 use Rattle.rx_render.specs.declared.at.At.{At}
 use Rattle.rx_render.specs.declared.at.At.TheVariants.{Begins, Completes}
 use Rattle.rx_render.specs.Rendering.{ComesTo, to_place, to_end, to_tree}
-use Rattle.rx_children.specs.Nodes.{parts_in}
-use Rattle.rx_children.specs.Origins.{IsAgain, TellsAgain}
-use Rattle.begin_laws.proofs.Costing.{before_is}
 use Rattle.rx_render.specs.Advancing.{at_after, at_opened, Goes, by_unit, past_attempt, past_subtree, CanBegin, Advances}
 
 -- A wait for a number that is no resource's
@@ -120,8 +116,7 @@ caught t new st st' p q x (lies {fs = fs} w) f = fallbacks.stopped (f 0 fs w)
 -- what a unit pays that begins the place of a fiber, and opens it over a list
 abbrev pub PaysOpened : Sight → (kept : ℕ → Option (List Hook)) → Trees Fiber → Stack → Trees Fiber → (id bodies : ℕ) → At → Type 0
 PaysOpened s kept t st new id bodies at =
-    (n : ℕ) (fs : List Frame) (cs : Contexts) (e : Element) (old : Option Node) (us : Flags) → StandsAt t st (Some id) (at_place (suc n) fs cs e old) → IfSettled s.program (known_by s) old → TellsIf s kept old
-    → HasLists (shape_of s cs e old) → FlagsAtPlace t id us → Paid s t.current bodies us (at_place (suc n) fs cs e old) (unit s (at_place (suc n) fs cs e old)) new at
+    (n : ℕ) (fs : List Frame) (cs : Contexts) (e : Element) (old : Option Node) (us : Flags) → StandsAt t st (Some id) (at_place (suc n) fs cs e old) → TellsIf s kept old → HasLists (shape_of s cs e old) → FlagsAtPlace t id us → Paid s t.current bodies us (at_place (suc n) fs cs e old) (unit s (at_place (suc n) fs cs e old)) new at
 
 -- what it pays if a body waits, and the fallback of a boundary opens
 abbrev pub PaysWaiting : Sight → (kept : ℕ → Option (List Hook)) → Trees Fiber → Stack → Trees Fiber → Stack → (id bodies r : ℕ) → Trees Fiber → At → Type 0
@@ -165,20 +160,6 @@ told_there : (t : Trees Fiber) (st : Stack) (id n : ℕ) (us : Flags) (fs : List
 told_there t st id n us fs cs e old fits h (begins_place {v = v} {o = o} {rs = rs} {k = k} here is was surrounds values stack moves) told =
     sym (told_stood t st id us fits h k v o rs here moves) ∙ told v (sym (ap made_value_in (is-at t fits k id v o (taken shapes.none) rs here).list))
 
--- what its fiber tells of its element is told too
-before_there : (t : Trees Fiber) (st : Stack) (id n : ℕ) (us : Flags) (fs : List Frame) (cs : Contexts) (e : Element) (old : Option Node) (x : Node) → Fits t → FlagsAtPlace t id us
-    → StandsAt t st (Some id) (at_place (suc n) fs cs e old) → IsOld t.current (old_of t.draft id) (Some x)
-    → ((v : Fiber) → Some v ≡ made_value_of t.draft id → IsAgain (is_some (parts_in v.element)) t.current (old_of t.draft id) v) → is_as_before (flag us) e (Some x) ≡ true
-before_there t st id n us fs cs e old x fits h (begins_place {v = v} {o = o} {rs = rs} {k = k} here is was surrounds values stack moves) is_old again =
-    let at = is-at t fits h.flags.around id h.flags.value h.flags.old (taken shapes.none) h.flags.rest h.flags.here in
-    let first = is-at t fits k id v o (taken shapes.none) rs here in
-    let both : Some (made id h.flags.value h.flags.old (taken shapes.none) h.flags.rest) ≡ Some (made id v o (taken shapes.none) rs) = sym at.list ∙ first.list in
-    let same : h.flags.value ≡ v = cc in
-    let element : h.flags.value.element ≡ e = ap (λ (w : Fiber). w.element) same ∙ is.element in
-    let told = again h.flags.value (sym (ap made_value_in at.list)) in
-    sym
-    (before_is t.current (old_of t.draft id) h.flags.value (flag us) e (Some x) true is_old element h.told.0 (λ so. told, λ so. refl))
-
 -- a unit that begins the place of a fiber evaluates at most so many bodies
 abbrev pub AreFew : Sight → Trees Fiber → Stack → (id bodies : ℕ) → Type 0
 AreFew s t st id bodies =
@@ -193,7 +174,7 @@ module _ (s : Sight) (way : ℕ → Bool) (kept : ℕ → Option (List Hook)) (t
         next = unit s (at_place (suc n) fs cs e old);
         goes = by_unit (few n fs cs e old h);
         comes = place_comes new st' child _ b.0 b.1;
-        paid = λ us causes are. pays n fs cs e old us h gives.1 causes.0 b.2 are;
+        paid = λ us causes are. pays n fs cs e old us h causes.0 b.2 are;
       }
 
   pub leaf_advances : BeginsPlace s way kept t st new st' id Leaf → PaysOpened s kept t st new id bodies (Completes id) → Advances s way kept t st (Begins id) bodies new st' (Completes id)
@@ -204,7 +185,7 @@ module _ (s : Sight) (way : ℕ → Bool) (kept : ℕ → Option (List Hook)) (t
         next = unit s (at_place (suc n) fs cs e old);
         goes = by_unit (few n fs cs e old h);
         comes = end_comes new st' id _ b.0 b.1;
-        paid = λ us causes are. pays n fs cs e old us h gives.1 causes.0 b.2 are;
+        paid = λ us causes are. pays n fs cs e old us h causes.0 b.2 are;
       }
 
   pub waits_advances : (r : ℕ) (last : Trees Fiber) (st'' : Stack) (a : At) → BeginsPlace s way kept t st new st' id (Suspended r)
@@ -252,21 +233,21 @@ module _ (s : Sight) (t : Trees Fiber) (st : Stack) (new : Trees Fiber) (st' : S
 module _ (s : Sight) (t : Trees Fiber) (st : Stack) (new last : Trees Fiber) (st' : Stack) (p n : ℕ) (fs : List Frame) (cs : Contexts) (e : Element) (old : Option Node) (a : Awaits) (us : Flags) (next : At) (linked : IsLinked t.current)
     (h : IsHiddenAgain s t st new st' p n fs cs e old a) where
   hidden_pays : (bodies : ℕ) → bodies ≡ 0 → is_untouched s (stood (flag us)) e old ≡ true
-      → UnitPays s t.current bodies us (at_place (suc n) fs cs e old) (beside_kept ∷ us) (open_part n fs (falling e old a) (part cs (fallback_in e ∷ []) (fallback_if old)))
+      → UnitPays s t.current bodies us (at_place (suc n) fs cs e old) (flag us ∷ us) (open_part n fs (falling e old a) (part cs (fallback_in e ∷ []) (fallback_if old)))
   hidden_pays bodies none out =
       let so : is_untouched s (stood (flag us)) (elements.boundary h.key h.fallback h.given) (Some (node (elements.boundary h.key h.fallback h.given) (of_boundary (Hidden a)) h.kept h.shown)) ≡ true =
       subst (λ x. is_untouched s (stood (flag us)) x (Some (node x (of_boundary (Hidden a)) h.kept h.shown)) ≡ true) h.boundary (subst (λ o. is_untouched s (stood (flag us)) e o ≡ true) h.was out)
       in
       rw (h.was, h.boundary) (paying.past_attempt none linked h.stood (hidden_old s t st new st' p n fs cs e old a linked h) h.versions h.calm h.unresolved h.agree so)
 
-  hidden_paid : (bodies : ℕ) → bodies ≡ 0 → is_untouched s (stood (flag us)) e old ≡ true → HasFlags last next (beside_kept ∷ us)
+  hidden_paid : (bodies : ℕ) → bodies ≡ 0 → is_untouched s (stood (flag us)) e old ≡ true → HasFlags last next (flag us ∷ us)
       → Paid s t.current bodies us (at_place (suc n) fs cs e old) (open_part n fs (falling e old a) (part cs (fallback_in e ∷ []) (fallback_if old))) last next
-  hidden_paid bodies none out flags = record { flags = beside_kept ∷ us; are = flags; pays = hidden_pays bodies none out }
+  hidden_paid bodies none out flags = record { flags = flag us ∷ us; are = flags; pays = hidden_pays bodies none out }
 
 module _ (s : Sight) (way : ℕ → Bool) (kept : ℕ → Option (List Hook)) (t : Trees Fiber) (st : Stack) (new : Trees Fiber) (st' : Stack) (id bodies : ℕ) where
   pub hidden_advances : (a : Awaits) (last : Trees Fiber) (next : At) → AreFew s t st id bodies → Fits t → IsLinked t.current → BeginsPlace s way kept t st new st' id (answers.Hidden a)
       → ((c : Cursor) → (l : IsLeftAt new st' id (taken shapes.none) a c) → HasOldFallback new.current (given_along l.frames) l.old l.node l.value.element → ComesTo last st' next c)
-      → HasNoNewsThere s kept t id → ((us : Flags) → FlagsAtPlace t id us → stood (flag us) ≡ true → HasFlags last next (beside_kept ∷ us)) → Advances s way kept t st (Begins id) bodies last st' next
+      → HasNoNewsThere s kept t id → ((us : Flags) → FlagsAtPlace t id us → stood (flag us) ≡ true → HasFlags last next (flag us ∷ us)) → Advances s way kept t st (Begins id) bodies last st' next
   hidden_advances a last next few fits linked begins comes none_new opened _ (to_place {levels = zero} h) level gives = absurd (omega (arith, level))
   hidden_advances a last next few fits linked begins comes none_new opened _ (to_place {levels = suc n} {fs = fs} {cs = cs} {e = e} {old = old} h) level gives =
       let b = begins n fs cs e old h gives.0 gives.1 gives.2 in
@@ -297,20 +278,20 @@ module _ (s : Sight) (t new : Trees Fiber) (st' : Stack) (p n : ℕ) (fs : List 
       let covered : CoversIf way (IsUndue s) (Some h.node) = subst (CoversIf way (IsUndue s)) h.was causes.1 in
       there.undue way (rested h.node (subst (IsOld t.current (old_of t.draft p)) h.was h.old_is)) covered
 
-  taken_pays : (way : ℕ → Bool) (kept : ℕ → Option (List Hook)) (us : Flags) (bodies : ℕ) → bodies ≡ 0 → RestsThere s way kept t p → CausesAt s way kept (at_place (suc n) fs cs e old) → is_as_before (flag us) e (Some h.node) ≡ true
+  taken_pays : (way : ℕ → Bool) (kept : ℕ → Option (List Hook)) (us : Flags) (bodies : ℕ) → bodies ≡ 0 → RestsThere s way kept t p → CausesAt s way kept (at_place (suc n) fs cs e old)
       → UnitPays s t.current bodies us (at_place (suc n) fs cs e old) us (arrive (suc n) fs (Some h.node))
-  taken_pays way kept us bodies none rested causes again =
+  taken_pays way kept us bodies none rested causes =
       subst (λ o. UnitPays s t.current bodies us (at_place (suc n) fs cs e o) us (arrive (suc n) fs (Some h.node))) (sym h.was)
-      (paying.past_subtree none linked h.reads (subst (IsOld t.current (old_of t.draft p)) h.was h.old_is) h.same h.idle (taken_undue way kept rested causes) again)
+      (paying.past_subtree none linked h.reads (subst (IsOld t.current (old_of t.draft p)) h.was h.old_is) h.same h.idle (taken_undue way kept rested causes))
 
 module _ (s : Sight) (way : ℕ → Bool) (kept : ℕ → Option (List Hook)) (t : Trees Fiber) (st : Stack) (new : Trees Fiber) (st' : Stack) (id bodies : ℕ) where
-  pub taken_advances : (r : Next) → bodies ≡ 0 → IsLinked t.current → BeginsPlace s way kept t st new st' id answers.Taken → RestsThere s way kept t id → Fits t → ((v : Fiber) → Some v ≡ made_value_of t.draft id → IsAgain (is_some (parts_in v.element)) t.current (old_of t.draft id) v)
+  pub taken_advances : (r : Next) → bodies ≡ 0 → IsLinked t.current → BeginsPlace s way kept t st new st' id answers.Taken → RestsThere s way kept t id
       → ((us : Flags) (x : Node) → FlagsAtPlace t id us → IsOld t.current (old_of t.draft id) (Some x) → HasFlags new (at_after r) us)
       → ((levels : ℕ) (fs : List Frame) (x : Node) → IsPassed new st' id fs x → StandsAt new st' (fiber_in r) (arrive levels fs (Some x)))
       → ((levels : ℕ) (fs : List Frame) (x : Node) → IsPassed new st' id fs x → LeadsTo r (arrive levels fs (Some x)))
       → Advances s way kept t st (Begins id) bodies new st' (at_after r)
-  taken_advances r none linked begins rested fits again passed there leads _ (to_place {levels = zero} h) level gives = absurd (omega (arith, level))
-  taken_advances r none linked begins rested fits again passed there leads _ (to_place {levels = suc n} {fs = fs} {cs = cs} {e = e} {old = old} h) level gives =
+  taken_advances r none linked begins rested passed there leads _ (to_place {levels = zero} h) level gives = absurd (omega (arith, level))
+  taken_advances r none linked begins rested passed there leads _ (to_place {levels = suc n} {fs = fs} {cs = cs} {e = e} {old = old} h) level gives =
       let b = begins n fs cs e old h gives.0 gives.1 gives.2 in
       record {
         next = arrive (suc n) fs (Some b.node);
@@ -320,7 +301,7 @@ module _ (s : Sight) (way : ℕ → Bool) (kept : ℕ → Option (List Hook)) (t
             record {
               flags = us;
               are = passed us b.node are (subst (IsOld t.current (old_of t.draft id)) b.was b.old_is);
-              pays = taken_pays s t new st' id n fs cs e old linked b way kept us bodies none rested causes (before_there t st id n us fs cs e old b.node fits are h (subst (IsOld t.current (old_of t.draft id)) b.was b.old_is) again);
+              pays = taken_pays s t new st' id n fs cs e old linked b way kept us bodies none rested causes;
             };
       }
 

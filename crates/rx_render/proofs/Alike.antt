@@ -1,9 +1,8 @@
 -- What took its children over is like what it was made for, all along a render.
 use Rattle.std.specs.Prelude.{◌≡◌, ℕ, Bool, true, false, Option, Some, None, is_some, option_and_then, option_map, if◌then◌else◌}
 use Rattle.std.proofs.Common.{refl, sym, ap, ◌∙◌, subst}
-use Rattle.rx_elem.specs.Elements.{Element}
 use Rattle.rx_elem.specs.Numbers.{Numbers, numbered_instance, numbered_mark}
-use Rattle.rx_elem.specs.Trees.{Instance, Mark, Node, element_of, is_hidden, of_instance, of_host, of_boundary, of_catcher, plain}
+use Rattle.rx_elem.specs.Trees.{Mark, Node, element_of, is_hidden, of_instance, of_host, of_boundary, of_catcher, plain}
 use Rattle.rx_lists.specs.Shapes.{Shape, none, fiber}
 use Rattle.rx_links.specs.Drafts.{Draft, taken, made, kids_under}
 use Rattle.rx_links.specs.Places.{Around, top, below, after, placed}
@@ -13,8 +12,6 @@ use Rattle.rx_fiber.specs.declared.subtree.Subtree.{Subtree}
 use Rattle.rx_fiber.specs.Fibers.{Fiber, Stage, waiting, begun, trying, guarding, fallback}
 use Rattle.rx_fiber.specs.OldLists.{hides_in}
 use Rattle.rx_fiber.specs.Reading.{IsOld, of, next}
-use Rattle.rx_fiber.specs.Reading as reading
-use Rattle.rx_fiber.specs.Surround.{IsElementOf}
 use Rattle.rx_fiber.proofs.Completing.{whole_list}
 use Rattle.rx_complete.specs.Ends.{Outer, nearest_where}
 use Rattle.rx_causes.specs.Marks.{begun_mark, mark_at}

@@ -1,5 +1,5 @@
 -- What is at or below fibers is gathered along a render.
-use Rattle.std.specs.Prelude.{List, ◌≡◌, ℕ, Bool, true, false, ◌&&◌, Option, Some, None, IfSome, is_some, option_and_then, if◌then◌else◌}
+use Rattle.std.specs.Prelude.{List, ◌≡◌, ℕ, Bool, true, false, Option, Some, None, IfSome, option_and_then, if◌then◌else◌}
 use Rattle.std.specs.Option.{option_map_or}
 use Rattle.std.proofs.Common.{refl, sym, ap, ◌∙◌, subst}
 use Rattle.rx_ctx.specs.Contexts.{Stack}
@@ -15,7 +15,7 @@ use Rattle.rx_links.proofs.Placed.{is-at}
 use Rattle.rx_meaning.specs.Fresh.{Contexts, Sight}
 use Rattle.rx_fiber.specs.declared.stage.Origin.{Origin}
 use Rattle.rx_fiber.specs.declared.stage.StageChange.TheVariants as change
-use Rattle.rx_fiber.specs.Fibers.{Fiber, Stage, as_matched, waiting, begun, trying, guarding, fallback, generation_of, joined, nothing, marked_subtree, own_subtree, completed_stage}
+use Rattle.rx_fiber.specs.Fibers.{Fiber, Stage, as_matched, waiting, begun, trying, guarding, fallback, joined, nothing, marked_subtree, own_subtree, completed_stage}
 use Rattle.rx_fiber.specs.FiberView.{changed}
 use Rattle.rx_fiber.specs.Reading.{IsOld}
 use Rattle.rx_fiber.specs.Standing.{StandsAt, begins, completes}
@@ -28,18 +28,16 @@ use Rattle.rx_complete.specs.Ends.{Outer, nearest, nearest_catch, nearest_where,
 use Rattle.rx_complete.specs.declared.completing.Next.{Next}
 use Rattle.rx_complete.proofs.Leading.{next_is}
 use Rattle.rx_causes.specs.declared.scene.Scene.{Scene}
-use Rattle.rx_causes.specs.Marks.{begun_mark, keeps_children, mark_at}
+use Rattle.rx_causes.specs.Marks.{begun_mark, mark_at}
 use Rattle.rx_causes.specs.Scenes.{IsSceneOf}
 use Rattle.rx_causes.proofs.Marks.{mark_is}
 use Rattle.rx_ways.specs.Ways.{is_way}
 use Rattle.rx_begin.specs.Beginning.{BeginsPlace, is_opened}
-use Rattle.rx_children.specs.Nodes.{HasTaken, begun_over, parts_in, taken_as}
+use Rattle.rx_children.specs.Nodes.{HasTaken, begun_over, taken_as}
 use Rattle.rx_fallback.specs.Opening.{HasCaughtKids, HasFallbackKids, alone, beside, opened_at}
-use Rattle.rx_children.specs.Children.{AllWait}
 use Rattle.rx_begin.specs.Kids.{HasKids}
-use Rattle.rx_children.specs.Origins.{TellsAgain, TellsSteady}
-use Rattle.rx_elem.specs.Elements.{Element, stands_for_children}
-use Rattle.rx_meaning.specs.Generations.{generation_below}
+use Rattle.rx_children.specs.Origins.{TellsSteady}
+use Rattle.rx_elem.specs.Elements.{Element}
 use Rattle.rx_children.specs.declared.node.Begun.{Begun}
 use Rattle.rx_children.specs.declared.node.Begun.TheVariants.{Child, Leaf}
 use Rattle.rx_children.specs.declared.node.Begun.TheVariants as answers
@@ -47,12 +45,11 @@ use Rattle.rx_fallback.specs.declared.opening.Opened.{Opened}
 use Rattle.begin_laws.specs.Flagged.{AllBare}
 use Rattle.begin_laws.proofs.Costing.{wait_bare}
 use Rattle.rx_read.specs.Numbering.{numbered_at, numbered_draft, numbered_fiber}
-use Rattle.rx_render.specs.declared.at.At.{At}
-use Rattle.rx_render.specs.declared.at.At.TheVariants.{Begins, Completes, Over}
+use Rattle.rx_render.specs.declared.at.At.TheVariants.{Begins, Completes}
 use Rattle.rx_render.specs.Advancing.{at_after, at_opened, CanBegin}
 use Rattle.rx_meaning.specs.Cursor.{Cursor, Frame, at_place}
 use Rattle.rx_beside.specs.Alike.{AllTakeAlike}
-use Rattle.rx_render.proofs.Alike.{IsOwn, begun_of, beside_alike, done_alike, dropped_alike, opened_alike, taken_alike, whole_own}
+use Rattle.rx_render.proofs.Alike.{begun_of, beside_alike, done_alike, dropped_alike, opened_alike, taken_alike, whole_own}
 use Rattle.rx_render.specs.Gathers.{AroundGathered, GatheredHere, GatheredAtEnd, HasGathered, IsGathering}
 
 -- Around a place
@@ -267,11 +264,12 @@ begun_none : (d : Draft Fiber) → AllBare d → Leaf ≡ begun_over d → entry
 begun_none (taken s) bare e = ap shapes.first bare
 begun_none (made id v o ks rs) bare e = absurd (let q : ⊥ = cc in q)
 
-module _ (t new : Trees Fiber) (id : ℕ) (fits : Fits t) (evaluated : Bool) (b : Begun)
-    (says : (v : Fiber) → Some v ≡ made_value_of t.draft id → is_opened b ≡ true
-    → (origin : Origin) × (again : Bool) × TellsSteady t.current (old_of t.draft id) v origin.visible × TellsAgain (is_some (parts_in v.element)) t.current (old_of t.draft id) v again
-    × (origin.generation ≡ generation_below evaluated (again && keeps_children true (mark_at t.current (old_of t.draft id))) (stands_for_children v.element) (generation_of v.stage))
-    × ((h : HasKids origin t new id) × (b ≡ begun_over h.kids))) (still : new.current ≡ t.current) (gathering : IsGathering t (Begins id)) where
+-- what is said of the children of a place that is opened: their old ones are visible exactly if the place is steady
+abbrev pub SaysKids : (t new : Trees Fiber) → ℕ → Begun → Type 0
+SaysKids t new id b =
+    (v : Fiber) → Some v ≡ made_value_of t.draft id → is_opened b ≡ true → (origin : Origin) × TellsSteady t.current (old_of t.draft id) v origin.visible × ((h : HasKids origin t new id) × (b ≡ begun_over h.kids))
+
+module _ (t new : Trees Fiber) (id : ℕ) (fits : Fits t) (b : Begun) (says : SaysKids t new id b) (still : new.current ≡ t.current) (gathering : IsGathering t (Begins id)) where
   here : GatheredHere t id
   here = gathering.0
 
@@ -286,7 +284,7 @@ module _ (t new : Trees Fiber) (id : ℕ) (fits : Fits t) (evaluated : Bool) (b 
 
   pub child_gathered : (child : ℕ) → b ≡ Child child → IsGathering new (Begins child)
   child_gathered child is =
-      let (origin, again, steadiness, telling, generation, (kids, over)) = says here.value its_value (ap is_opened is) in (
+      let (origin, steadiness, (kids, over)) = says here.value its_value (ap is_opened is) in (
         subst (λ f. HasGathered new (at_opened (opened_at f id))) (begun_first kids.kids child (sym is ∙ over))
             (open_gathered new here.around id (kids.value here.value) here.old kids.kids here.rest (kids.stands here.around here.value here.old here.rest here.here) here.gathered here.follow
             (wait_bare origin kids.kids kids.all)),
@@ -295,7 +293,7 @@ module _ (t new : Trees Fiber) (id : ℕ) (fits : Fits t) (evaluated : Bool) (b 
 
   pub leaf_gathered : b ≡ Leaf → IsGathering new (Completes id)
   leaf_gathered is =
-      let (origin, again, steadiness, telling, generation, (kids, over)) = says here.value its_value (ap is_opened is) in
+      let (origin, steadiness, (kids, over)) = says here.value its_value (ap is_opened is) in
       let bare : AllBare kids.kids = wait_bare origin kids.kids kids.all in (
         subst (λ f. HasGathered new (at_opened (opened_at f id))) (begun_none kids.kids bare (sym is ∙ over))
             (open_gathered new here.around id (kids.value here.value) here.old kids.kids here.rest (kids.stands here.around here.value here.old here.rest here.here) here.gathered here.follow bare),

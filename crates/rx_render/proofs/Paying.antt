@@ -1,9 +1,9 @@
 -- What the beginning of a place pays, by the parts of a unit.
-use Rattle.std.specs.Prelude.{◌≡◌, ℕ, ℤ, suc, Bool, true, false, ◌&&◌, List, [], ◌∷◌, Option, Some, None, is_some, if◌then◌else◌}
+use Rattle.std.specs.Prelude.{◌≡◌, ℕ, ℤ, suc, Bool, true, false, List, ◌∷◌, Option, Some, None, if◌then◌else◌}
 use Rattle.std.proofs.Common.{refl, sym, ap, ◌∙◌, subst}
 use Rattle.rx_base.specs.Awaits.{Awaits}
 use Rattle.rx_ctx.specs.Contexts.{Stack, moved_in, moves_by, none_moved, values_at}
-use Rattle.rx_elem.specs.Elements.{Element, stands_for_children}
+use Rattle.rx_elem.specs.Elements.{Element}
 use Rattle.rx_elem.specs.Trees.{Node, mark_of}
 use Rattle.rx_elem.proofs.Deciding.{and_passes}
 use Rattle.rx_hooks.specs.declared.hook.Hook.{Hook}
@@ -14,11 +14,10 @@ use Rattle.rx_links.specs.Readers.{made_value_in, made_value_of}
 use Rattle.rx_links.proofs.Placed.{is-at}
 use Rattle.rx_meaning.specs.Cursor.{Frame, at_place}
 use Rattle.rx_meaning.specs.Fresh.{Contexts, Sight}
-use Rattle.rx_meaning.specs.Generations.{generation_below, own_generation}
 use Rattle.rx_fiber.specs.FiberView.{changed}
 use Rattle.rx_fiber.specs.declared.stage.StageChange.TheVariants as change
 use Rattle.rx_fiber.specs.declared.stage.Origin.{Origin}
-use Rattle.rx_fiber.specs.Fibers.{Fiber, as_cloned, as_matched, generation_of, origin_of}
+use Rattle.rx_fiber.specs.Fibers.{Fiber, as_cloned, as_matched, origin_of}
 use Rattle.rx_fiber.specs.Reading.{IsOld}
 use Rattle.rx_fiber.specs.Standing.{StandsAt, begins}
 use Rattle.rx_fiber.specs.Stood.{gave, given_in}
@@ -28,34 +27,33 @@ use Rattle.rx_complete.specs.Ends.{Outer, nearest, nearest_catch, next_after}
 use Rattle.rx_complete.specs.declared.completing.Next.{Next}
 use Rattle.rx_complete.specs.declared.completing.Next.TheVariants.{Sibling, Parent, Done}
 use Rattle.rx_causes.specs.declared.scene.Scene.{Scene}
-use Rattle.rx_causes.specs.Marks.{keeps_children, mark_at}
+use Rattle.rx_causes.specs.Marks.{mark_at}
 use Rattle.rx_causes.specs.Scenes.{IsSceneOf}
 use Rattle.rx_causes.proofs.Marks.{mark_is}
 use Rattle.rx_begin.specs.Beginning.{is_opened}
-use Rattle.rx_children.specs.Nodes.{HasTaken, begun_over, parts_in}
+use Rattle.rx_children.specs.Nodes.{HasTaken, begun_over}
 use Rattle.rx_fallback.specs.Opening.{HasCaughtKids, HasFallbackKids, IsCatchLeft, IsLeft, alone, beside, left, opened_at}
 use Rattle.rx_fallback.specs.Opening as fallbacks
 use Rattle.rx_fallback.proofs.Falling.{boundary_gives}
 use Rattle.rx_fiber.proofs.Unwinding.{catcher_gives}
 use Rattle.rx_children.specs.Children.{AllWait}
-use Rattle.rx_begin.specs.Kids.{HasKids}
-use Rattle.rx_children.specs.Origins.{TellsAgain, TellsSteady}
 use Rattle.rx_children.specs.declared.node.Begun.{Begun}
 use Rattle.rx_children.specs.declared.node.Begun.TheVariants.{Child, Leaf}
 use Rattle.rx_fallback.specs.declared.opening.Opened.{Opened}
-use Rattle.cost_laws.specs.Evaluated.{Flag, after_attempt, beside_kept, is_again, once_caught, stood}
+use Rattle.cost_laws.specs.Evaluated.{Flag, once_caught, stood}
 use Rattle.cost_laws.specs.Left.{Flags, begun_flags, flag, outer, thrown_past, unit_flags, unwound}
 use Rattle.begin_laws.specs.Flagged.{KeepsTold, FlagsAfter, FlagsAtEnd, FlagsAtPlace, FlagsHere, FlagsOpened, HasThrown, HasUnwound, IsFlagged}
 use Rattle.begin_laws.proofs.Going.{completes, flagged_moved, opens, opens_beside, passes}
 use Rattle.begin_laws.proofs.Once.{same_around}
 use Rattle.begin_laws.proofs.Unwinding.{throws_out, unwinds}
 use Rattle.begin_laws.specs.Telling.{OpensKids, TellsBody, TellsTries}
-use Rattle.begin_laws.proofs.Costing.{again_is, counts, may, opens_so, wait_bare, wait_told}
+use Rattle.begin_laws.proofs.Costing.{counts, may, opens_so, wait_bare, wait_told}
 use Rattle.rx_render.specs.declared.at.At.{At}
 use Rattle.rx_render.specs.declared.at.At.TheVariants.{Begins, Completes}
 use Rattle.rx_render.specs.Advancing.{at_after, at_opened}
 use Rattle.rx_render.specs.Costing.{HasFlags, Paid, UnitPays}
 use Rattle.rx_render.specs.Costing as paying
+use Rattle.rx_render.proofs.Gathering.{SaysKids}
 use Rattle.rx_render.proofs.Advancing.{AreFew, PaysOpened, PaysThrowing, PaysWaiting}
 
 -- Where flags go
@@ -94,7 +92,7 @@ caught_quiet t q fits (fallbacks.stopped l) k v o rs there =
     ap (λ u. given_in u.element) same ∙ catcher_gives l.value.element l.catcher
 
 -- a fallback opens below a boundary
-module _ (origin : Origin) (t new : Trees Fiber) (q : ℕ) (us : Flags) (u : Flag) (here : FlagsHere t q (taken shapes.none) us) (generation : origin.generation ≡ u.generation) (visible : origin.visible ≡ u.visible)
+module _ (origin : Origin) (t new : Trees Fiber) (q : ℕ) (us : Flags) (u : Flag) (here : FlagsHere t q (taken shapes.none) us) (visible : origin.visible ≡ u.visible)
     (fits : Fits t) (quiet : GivesNone t q) (moved : u.moved ≡ (flag us).moved) where
   -- what tries no children keeps nothing
   keeps_none : (v : Fiber) → is_trying v.stage ≡ false → KeepsTold (flag us) v
@@ -112,19 +110,15 @@ module _ (origin : Origin) (t new : Trees Fiber) (q : ℕ) (us : Flags) (u : Fla
   pub fallback_flags : (f : Opened) → new.current ≡ t.current → HasFallbackKids origin t new q f → HasFlags new (at_opened f) (u ∷ us)
   fallback_flags f current (alone kids value still same all new_if stands is) =
       subst (λ x. HasFlags new (at_opened x) (u ∷ us)) (sym is)
-      (opened_flags new q (u ∷ us) (entry kids) (opens t new q us u kids value here (λ k v o rs h. (stands k v o rs h, keeps_none (value v) (still v), moved_there k v o rs h q (value v) o (same v))) current (wait_bare origin kids all) (wait_told origin u generation visible kids all)))
+      (opened_flags new q (u ∷ us) (entry kids) (opens t new q us u kids value here (λ k v o rs h. (stands k v o rs h, keeps_none (value v) (still v), moved_there k v o rs h q (value v) o (same v))) current (wait_bare origin kids all) (wait_told origin u visible kids all)))
   fallback_flags f current (beside kids value kept id w old still hidden too all new_if stands over is) =
       subst (λ x. HasFlags new (at_opened x) (u ∷ us)) (sym is)
       (opened_flags new id (u ∷ us) (entry kids) (opens_beside t new q id us u kids value w old kept here
-      (λ k v o rs h. let (element, there) = stands k v o rs h in (there, moved_there k v o rs h id w old element)) current (keeps_none w too) (wait_bare origin kids all) (wait_told origin u generation visible kids all)))
-
-none_here : (ms : List ℕ) → none_moved ms ≡ true → ms ≡ []
-none_here [] h = refl
-none_here (c ∷ ms) h = absurd (let q : ⊥ = cc in q)
+      (λ k v o rs h. let (element, there) = stands k v o rs h in (there, moved_there k v o rs h id w old element)) current (keeps_none w too) (wait_bare origin kids all) (wait_told origin u visible kids all)))
 
 -- an untouched boundary opens its fallback over clones of what is visible
 pub again_flags : (t tried new : Trees Fiber) (id : ℕ) (c : Origin) (f : Opened) → Fits t → tried ≡ record t { draft = valued id (changed (change.Try c)) t.draft } → HasFallbackKids (as_cloned true) tried new id f
-    → Fits tried → (awaits : Awaits) → IsLeft tried id awaits → new.current ≡ tried.current → (us : Flags) → FlagsAtPlace t id us → stood (flag us) ≡ true → HasFlags new (at_opened f) (beside_kept ∷ us)
+    → Fits tried → (awaits : Awaits) → IsLeft tried id awaits → new.current ≡ tried.current → (us : Flags) → FlagsAtPlace t id us → stood (flag us) ≡ true → HasFlags new (at_opened f) (flag us ∷ us)
 again_flags t tried new id c f fits is kids fits_tried awaits stopped current us h so =
     let at = is-at t fits h.flags.around id h.flags.value h.flags.old (taken shapes.none) h.flags.rest h.flags.here in
     let here : FlagsHere tried id (taken shapes.none) us = record {
@@ -135,8 +129,8 @@ again_flags t tried new id c f fits is kids fits_tried awaits stopped current us
       here = ap (λ x. x.draft) is ∙ at.value (changed (change.Try c));
       flagged = subst (λ k. IsFlagged k h.flags.around h.flags.rest us) (sym (ap (λ x. x.current) is)) h.flags.flagged;
     } in
-    let (shown, none) = and_passes (flag us).visible (none_moved (flag us).moved) so in
-    fallback_flags (as_cloned true) tried new id us beside_kept here refl refl fits_tried (left_quiet tried id awaits fits_tried stopped) (sym (none_here (flag us).moved none)) f current kids
+    let shown : (flag us).visible ≡ true = (and_passes (flag us).visible (none_moved (flag us).moved) so).0 in
+    fallback_flags (as_cloned true) tried new id us (flag us) here (sym shown) fits_tried (left_quiet tried id awaits fits_tried stopped) refl f current kids
 
 -- a node that is completed
 pub end_flags : (t new : Trees Fiber) (id : ℕ) (r : Next) (m : Fiber → Fiber) → Fits t → new ≡ record t { draft = valued id m t.draft } → r ≡ next_after t.draft id → (us : Flags) → FlagsAtEnd t id us
@@ -162,11 +156,9 @@ passed_flags t new id r fits fits_new current takes next us x h was =
     subst (λ y. HasFlags new (at_after y) us) (sym next)
     (after_flags new us (next_after new.draft id) (passes new id (taken (kids_under t.current h.flags.old)) us fits_new there))
 
--- what opens the fallback of a boundary says of its fibers: their old ones are visible exactly if the boundary's is, and they are of the generation of its own element
+-- what opens the fallback of a boundary says of its fibers: their old ones are visible exactly if the boundary's is
 abbrev pub SaysFallback : Trees Fiber → Trees Fiber → ℕ → Opened → Type 0
-SaysFallback t new q f =
-    (v : Fiber) → Some v ≡ made_value_of t.draft q → (again : Bool) × TellsAgain false t.current (old_of t.draft q) v again
-    × HasFallbackKids (as_matched (origin_of v.stage).visible (own_generation again (generation_of v.stage))) t new q f
+SaysFallback t new q f = (v : Fiber) → Some v ≡ made_value_of t.draft q → (generation : ℕ) × HasFallbackKids (as_matched (origin_of v.stage).visible generation) t new q f
 
 -- out of a place that waits, to the fallback of the nearest boundary
 module _ (t : Trees Fiber) (fits : Fits t) (st : Stack) (p : ℕ) (fs : List Frame) (us : Flags) (h : FlagsHere t p (taken shapes.none) us) (within : IsWithin t st p fs) where
@@ -176,20 +168,12 @@ module _ (t : Trees Fiber) (fits : Fits t) (st : Stack) (p : ℕ) (fs : List Fra
   unwound_flags dropped new q f fits_dropped current found awaits stopped same_current says =
       let (u, near, id, here) = found in
       let here_too : dropped.draft ≡ placed u.around (made u.id u.value u.old (taken shapes.none) u.rest) = here ∙ ap (λ i. placed u.around (made i u.value u.old (taken shapes.none) u.rest)) (sym id) in
-      let w : HasUnwound t dropped u.id u.value u.old fs us = unwinds t dropped st p (taken shapes.none) fs us fits h within u near here_too current in
+      let w : HasUnwound dropped u.id u.value fs us = unwinds t dropped st p (taken shapes.none) fs us fits h within u near here_too current in
       let at = is-at dropped fits_dropped u.around q u.value u.old (taken shapes.none) u.rest here in
       let flags : FlagsHere dropped q (taken shapes.none) (outer (unwound fs us)) = subst (λ i. FlagsHere dropped i (taken shapes.none) (outer (unwound fs us))) id w.flags in
-      let was : IsOld dropped.current (old_of dropped.draft q) w.node =
-      subst (λ o. IsOld dropped.current o w.node) (sym at.old) (subst (λ c. IsOld c u.old w.node) (sym current) w.was)
-      in
-      let (again, telling, kids) = says u.value (sym (ap made_value_in at.list)) in
-      let own = flag (outer (unwound fs us)) in
-      let same : again ≡ is_again own u.value.element w.node = again_is dropped.current (old_of dropped.draft q) u.value own u.value.element w.node again was refl w.kept.0 telling in
-      let generation : own_generation again (generation_of u.value.stage) ≡ own_generation (is_again own u.value.element w.node) own.generation =
-      ap (λ b. own_generation b (generation_of u.value.stage)) same ∙ ap (own_generation (is_again own u.value.element w.node)) w.kept.0
-      in
+      let (generation, kids) = says u.value (sym (ap made_value_in at.list)) in
       subst (HasFlags new (at_opened f)) (sym w.some)
-      (fallback_flags (as_matched (origin_of u.value.stage).visible (own_generation again (generation_of u.value.stage))) dropped new q (outer (unwound fs us)) (after_attempt own u.value.element w.node) flags generation w.kept.1 fits_dropped (left_quiet dropped q awaits fits_dropped stopped) refl f same_current kids)
+      (fallback_flags (as_matched (origin_of u.value.stage).visible generation) dropped new q (outer (unwound fs us)) (flag (outer (unwound fs us))) flags w.kept fits_dropped (left_quiet dropped q awaits fits_dropped stopped) refl f same_current kids)
 
   -- out of one that throws, to the fallback of the nearest error boundary
   pub thrown_flags : (dropped new : Trees Fiber) (q : ℕ) (f : Opened) → Fits dropped → dropped.current ≡ t.current
@@ -201,7 +185,7 @@ module _ (t : Trees Fiber) (fits : Fits t) (st : Stack) (p : ℕ) (fs : List Fra
       let w : HasThrown dropped u.id fs us = throws_out t dropped st p (taken shapes.none) fs us fits h within u near here_too current in
       let flags : FlagsHere dropped q (taken shapes.none) (outer (thrown_past fs us)) = subst (λ i. FlagsHere dropped i (taken shapes.none) (outer (thrown_past fs us))) id w.flags in
       subst (HasFlags new (at_opened f)) (sym w.some)
-      (fallback_flags (as_matched false 1) dropped new q (outer (thrown_past fs us)) (once_caught (flag (outer (thrown_past fs us)))) flags refl refl fits_dropped (caught_quiet dropped q fits_dropped caught) refl f same_current
+      (fallback_flags (as_matched false 1) dropped new q (outer (thrown_past fs us)) (once_caught (flag (outer (thrown_past fs us)))) flags refl fits_dropped (caught_quiet dropped q fits_dropped caught) refl f same_current
       (alone kids.kids kids.value kids.stage kids.element kids.all (λ e. kids.new) kids.stands kids.answer_is))
 
 -- What is paid
@@ -227,35 +211,27 @@ module _ (s : Sight) (scene : Scene) (sees : IsSceneOf scene s) (kept : ℕ → 
   value_there n fs cs e old (begins {v = v} {o = o} {rs = rs} {k = k} here is was surrounds values stack moves) =
       (v, sym (ap made_value_in (is-at t fits k id v o (taken shapes.none) rs here).list))
 
-  -- what it says of the children of a place that is opened
-  abbrev pub SaysKids : Trees Fiber → Begun → Type 0
-  SaysKids new b =
-      (v : Fiber) → Some v ≡ made_value_of t.draft id → is_opened b ≡ true → (origin : Origin) × (again : Bool) × TellsSteady t.current (old_of t.draft id) v origin.visible
-      × TellsAgain (is_some (parts_in v.element)) t.current (old_of t.draft id) v again
-      × (origin.generation ≡ generation_below evaluated (again && keeps_children true (mark_at t.current (old_of t.draft id))) (stands_for_children v.element) (generation_of v.stage))
-      × ((h : HasKids origin t new id) × (b ≡ begun_over h.kids))
-
   module _ (tries : TellsTries scene kept t st id) where
-    opened_paid : (new : Trees Fiber) (b : Begun) → new.current ≡ t.current → is_opened b ≡ true → SaysKids new b → (first : Option ℕ) → ((origin : Origin) (d : Draft Fiber) → AllWait origin d → b ≡ begun_over d → entry d ≡ first)
+    opened_paid : (new : Trees Fiber) (b : Begun) → new.current ≡ t.current → is_opened b ≡ true → SaysKids t new id b → (first : Option ℕ) → ((origin : Origin) (d : Draft Fiber) → AllWait origin d → b ≡ begun_over d → entry d ≡ first)
         → (at : At) → ((us : Flags) → FlagsOpened new id us first → HasFlags new at us) → PaysOpened s kept t st new id (if evaluated then 1 else 0) at
-    opened_paid new b current opens_it says first is at as_flags n fs cs e old us h settled tells lists flags =
+    opened_paid new b current opens_it says first is at as_flags n fs cs e old us h tells lists flags =
         let goes = may s scene kept t st id n fs cs e old us sees fits h tells flags tries in
         let (v, there) = value_there n fs cs e old h in
-        let (origin, again, steadiness, telling, generation, (kids, over)) = says v there opens_it in
-        let opened : OpensKids t new id evaluated = record { value = v; is = there; origin = origin; steadiness = steadiness; again = again; telling = telling; generation = generation; kids = kids; current = current } in
+        let (origin, steadiness, (kids, over)) = says v there opens_it in
+        let opened : OpensKids t new id = record { value = v; is = there; origin = origin; steadiness = steadiness; kids = kids; current = current } in
         record {
           flags = unit_flags s us (at_place (suc n) fs cs e old);
           are = as_flags (unit_flags s us (at_place (suc n) fs cs e old))
               (subst (FlagsOpened new id (unit_flags s us (at_place (suc n) fs cs e old))) (is origin kids.kids kids.all over)
-              (opens_so s scene kept t new st id n fs cs e old us evaluated sees fits h settled tells flags (body_at n fs cs e old h) goes lists opened));
-          pays = paying.by_unit goes (counts s scene kept t st id n fs cs e old us evaluated sees fits h tells flags (body_at n fs cs e old h) (few n fs cs e old h));
+              (opens_so s t new st id n fs cs e old us fits h flags lists opened));
+          pays = paying.by_unit goes (counts s scene kept t st id n fs cs e old evaluated sees fits h tells (body_at n fs cs e old h) (few n fs cs e old h));
         }
 
-    pub child_paid : (new : Trees Fiber) (b : Begun) (child : ℕ) → new.current ≡ t.current → b ≡ Child child → SaysKids new b → PaysOpened s kept t st new id (if evaluated then 1 else 0) (Begins child)
+    pub child_paid : (new : Trees Fiber) (b : Begun) (child : ℕ) → new.current ≡ t.current → b ≡ Child child → SaysKids t new id b → PaysOpened s kept t st new id (if evaluated then 1 else 0) (Begins child)
     child_paid new b child current is says =
         opened_paid new b current (ap is_opened is) says (Some child) (λ origin d all over. begun_first origin d child (sym is ∙ over)) (Begins child) (λ us h. h)
 
-    pub leaf_paid : (new : Trees Fiber) (b : Begun) → new.current ≡ t.current → b ≡ Leaf → SaysKids new b → PaysOpened s kept t st new id (if evaluated then 1 else 0) (Completes id)
+    pub leaf_paid : (new : Trees Fiber) (b : Begun) → new.current ≡ t.current → b ≡ Leaf → SaysKids t new id b → PaysOpened s kept t st new id (if evaluated then 1 else 0) (Completes id)
     leaf_paid new b current is says = opened_paid new b current (ap is_opened is) says None (λ origin d all over. begun_none origin d all (sym is ∙ over)) (Completes id) (λ us h. h)
 
     pub waits_paid : (new : Trees Fiber) (st' : Stack) (r : ℕ) (last : Trees Fiber) (at : At) → new ≡ t
@@ -265,8 +241,8 @@ module _ (s : Sight) (scene : Scene) (sees : IsSceneOf scene s) (kept : ℕ → 
         let goes = may s scene kept t st id n fs cs e old us sees fits h tells flags tries in
         record {
           flags = unit_flags s us (at_place (suc n) fs cs e old);
-          are = subst (HasFlags last at) (sym (ap (begun_flags s fs us cs e old) shape.1)) (out fs us (subst (λ x. FlagsHere x id (taken shapes.none) us) (sym same) flags.flags) within);
-          pays = paying.by_unit goes (counts s scene kept t st id n fs cs e old us evaluated sees fits h tells flags (body_at n fs cs e old h) (few n fs cs e old h));
+          are = subst (HasFlags last at) (sym (ap (begun_flags fs us e old) shape.1)) (out fs us (subst (λ x. FlagsHere x id (taken shapes.none) us) (sym same) flags.flags) within);
+          pays = paying.by_unit goes (counts s scene kept t st id n fs cs e old evaluated sees fits h tells (body_at n fs cs e old h) (few n fs cs e old h));
         }
 
     pub throws_paid : (new : Trees Fiber) (st' : Stack) (x : ℤ) (last : Trees Fiber) (at : At) → new ≡ t
@@ -276,6 +252,6 @@ module _ (s : Sight) (scene : Scene) (sees : IsSceneOf scene s) (kept : ℕ → 
         let goes = may s scene kept t st id n fs cs e old us sees fits h tells flags tries in
         record {
           flags = unit_flags s us (at_place (suc n) fs cs e old);
-          are = subst (HasFlags last at) (sym (ap (begun_flags s fs us cs e old) shape)) (out fs us (subst (λ x. FlagsHere x id (taken shapes.none) us) (sym same) flags.flags) within);
-          pays = paying.by_unit goes (counts s scene kept t st id n fs cs e old us evaluated sees fits h tells flags (body_at n fs cs e old h) (few n fs cs e old h));
+          are = subst (HasFlags last at) (sym (ap (begun_flags fs us e old) shape)) (out fs us (subst (λ x. FlagsHere x id (taken shapes.none) us) (sym same) flags.flags) within);
+          pays = paying.by_unit goes (counts s scene kept t st id n fs cs e old evaluated sees fits h tells (body_at n fs cs e old h) (few n fs cs e old h));
         }

@@ -1,6 +1,6 @@
 -- What holds of a render in progress holds where it comes in one unit.
 use Rattle.std.specs.Prelude.{◌≡◌, ℕ, suc, ◌+◌, ◌≤◌, false, List, [], ◌∷◌, Option, Some, ◌⊎◌, refl}
-use Rattle.std.proofs.Common.{sym, subst, arith, inl, inr, true}
+use Rattle.std.proofs.Common.{sym, subst, arith, inl, inr}
 use Rattle.rx_ast.specs.Syntax.{Program}
 use Rattle.rx_check.specs.Checks.{unknowns}
 use Rattle.rx_base.specs.Awaits.{Awaits}
@@ -38,7 +38,7 @@ use Rattle.rx_render.specs.Mounting.{GoesWith}
 use Rattle.rx_meaning.specs.Again.{AllValuesAgree, AreUnresolved}
 use Rattle.commit_laws.specs.Each.{ForEach}
 use Rattle.commit_laws.specs.WaitsAgain.{without_lanes}
-use Rattle.cost_laws.specs.Evaluated.{Flag, beside_kept, evaluated as evaluates, is_as_before}
+use Rattle.cost_laws.specs.Evaluated.{Flag, evaluated as evaluates}
 use Rattle.cost_laws.specs.Left.{Costs, Flags, flag}
 use Rattle.cost_laws.specs.Undue.{IsUndue}
 use Rattle.cost_laws.proofs.CostLaws.{attempt_costs, take_costs, unit_costs}
@@ -174,11 +174,11 @@ module _ (s : Sight) (tree : Option Node) (current : Shape Fiber) (is : IsTreeOf
       subst (λ f. rendered (suc n) s cs f (Some x) ≡ made x) same
       (idle_again n fs cs x o linked stood was idle (subst (λ f. Reaches s tree units bodies (at_place (suc n) fs cs f (Some x))) (sym same) h))
 
-  nothing_at : (u : Flag) (n : ℕ) (fs : List Frame) (cs : Contexts) (x : Node) (e : Element) (o : Option ℕ) → is_as_before u e (Some x) ≡ true → element_of x ≡ e → IsLinked current → ReadsTheSame s current (given_along fs) cs o x → IsOld current o (Some x) → IsIdle s x
+  nothing_at : (u : Flag) (n : ℕ) (fs : List Frame) (cs : Contexts) (x : Node) (e : Element) (o : Option ℕ) → element_of x ≡ e → IsLinked current → ReadsTheSame s current (given_along fs) cs o x → IsOld current o (Some x) → IsIdle s x
       → ForEach (IsUndue s) x → Reaches s tree units bodies (at_place (suc n) fs cs e (Some x)) → evaluates (suc n) s u cs e (Some x) ≡ 0
-  nothing_at u n fs cs x e o again same linked stood was idle undue h =
+  nothing_at u n fs cs x e o same linked stood was idle undue h =
       subst (λ f. evaluates (suc n) s u cs f (Some x) ≡ 0) same
-      (nothing_rests s u cs x (suc n) (subst (λ f. is_as_before u f (Some x) ≡ true) (sym same) again) (h.rests.0.settles s.program (known_by s) settled) idle undue (reads_at n fs cs x e o linked stood was h))
+      (nothing_rests s u cs x (suc n) (h.rests.0.settles s.program (known_by s) settled) idle undue (reads_at n fs cs x e o linked stood was h))
 
   as_many : evaluated ≡ 0 → bodies ≡ bodies + evaluated
   as_many none = omega (arith, none)
@@ -187,10 +187,10 @@ module _ (s : Sight) (tree : Option Node) (current : Shape Fiber) (is : IsTreeOf
   pub pays : (c d : Cursor) (us vs : Flags) → UnitPays s current evaluated us c vs d → Reaches s tree units bodies c → Costs s tree bodies us c → Costs s tree (bodies + evaluated) vs d
   pays c _ us _ (paying.by_unit may same) h costs = unit_costs s tree bodies evaluated us c may costs same
   pays _ _ us _ (paying.past_attempt {n = n} {fs = fs} {cs = cs} {key = key} {f = f} {es = es} {a = a} {ns = ns} {kept = kept} {o = o} none linked stood was refresh calm unresolved agree out) h costs =
-      subst (λ b. Costs s tree b (beside_kept ∷ us)
+      subst (λ b. Costs s tree b (flag us ∷ us)
       (open_part n fs (falling (boundary key f es) (Some (node (boundary key f es) (of_boundary (Hidden a)) ns kept)) a) (part cs (f ∷ []) kept))) (as_many none)
       (attempt_costs s tree bodies n us fs cs (boundary key f es) (Some (node (boundary key f es) (of_boundary (Hidden a)) ns kept)) (part cs (listed es) ns) (part cs (f ∷ []) kept) a refl
       (waits_at n fs cs key f es a ns kept o linked stood was refresh calm unresolved agree h) out costs)
-  pays _ _ us _ (paying.past_subtree {n = n} {fs = fs} {cs = cs} {e = e} {x = x} {o = o} none linked stood was same idle undue again) h costs =
+  pays _ _ us _ (paying.past_subtree {n = n} {fs = fs} {cs = cs} {e = e} {x = x} {o = o} none linked stood was same idle undue) h costs =
       subst (λ b. Costs s tree b us (arrive (suc n) fs (Some x))) (as_many none)
-      (take_costs s tree bodies (suc n) us fs cs e x (renders_at n fs cs x e o same linked stood was idle h) (nothing_at (flag us) n fs cs x e o again same linked stood was idle undue h) costs)
+      (take_costs s tree bodies (suc n) us fs cs e x (renders_at n fs cs x e o same linked stood was idle h) (nothing_at (flag us) n fs cs x e o same linked stood was idle undue h) costs)

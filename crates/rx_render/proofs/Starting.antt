@@ -1,6 +1,6 @@
 -- A render that starts is in progress.
 use Rattle.std.specs.Prelude.{◌≡◌, ℕ, ℤ, Bool, List, [], Option, Some, None, IfSome, is_some, true, refl}
-use Rattle.std.proofs.Common.{sym, ap, ◌∙◌, subst, arith, inl, inr}
+use Rattle.std.proofs.Common.{sym, ap, ◌∙◌, subst, arith}
 use Rattle.rx_base.specs.declared.cut.Cut.{Cut}
 use Rattle.rx_lane.specs.Lanes.{Lanes}
 use Rattle.rx_ast.specs.Syntax.{Program}
@@ -20,7 +20,7 @@ use Rattle.rx_model.specs.State.{Progress, State}
 use Rattle.rx_model.specs.Committing.{sight_of, starting}
 use Rattle.rx_model.specs.HooksOf.{KeepsAllHooks}
 use Rattle.rx_model.specs.Laws.{IsBounded}
-use Rattle.rx_fiber.specs.Fibers.{Fiber, generation_of, is_visible, waiting, nothing}
+use Rattle.rx_fiber.specs.Fibers.{Fiber, is_visible, waiting, nothing}
 use Rattle.rx_fiber.specs.Subtrees.{IsGathered}
 use Rattle.rx_fiber.specs.declared.stage.Origin.{Origin}
 use Rattle.rx_fiber.specs.Reading.{IsTreeOf, IsOld, of, next}
@@ -87,11 +87,11 @@ unfolding start
 comes_to_start s old t id v tree waits here = to_place (starts s old t id v tree waits here)
 
 -- nothing is above the root's list, and what its fiber was made for is visible, with an element that is always the same
-root_flags : (t : Trees Fiber) (id : ℕ) (v : Fiber) (origin : Origin) → v.stage ≡ waiting origin → origin.visible ≡ true → origin.generation ≡ 0
+root_flags : (t : Trees Fiber) (id : ℕ) (v : Fiber) (origin : Origin) → v.stage ≡ waiting origin → origin.visible ≡ true
     → t.draft ≡ made id v (first t.current) (taken shapes.none) (taken shapes.none) → FlagsAtPlace t id []
-root_flags t id v origin stage visible generation here = record {
+root_flags t id v origin stage visible here = record {
   flags = record { around = top; value = v; old = first t.current; rest = taken shapes.none; here = here; flagged = flagged.at_root refl refl tt };
-  told = (ap generation_of stage ∙ generation, ap is_visible stage ∙ visible);
+  told = ap is_visible stage ∙ visible;
 }
 
 -- a rendering whose root waits for its first unit
@@ -163,7 +163,7 @@ start_renders lanes cut resources old new r draws bounded st is =
       };
       costs = record {
         flags = [];
-        are = subst (λ a. HasFlags new.trees a []) (sym r.at) (root_flags new.trees r.id r.value r.origin r.stage r.visible r.generation r.here);
+        are = subst (λ a. HasFlags new.trees a []) (sym r.at) (root_flags new.trees r.id r.value r.origin r.stage r.visible r.here);
         counted = subst (λ b. Costs s st.tree b [] (start s st.tree)) (sym r.bodies) (start_costs s st.tree);
         undue = r.undue old.program st (starting st lanes) is.apart.0 refl (sym is.cut_is) is.keeps is.current is.numbered is.apart.1;
       };

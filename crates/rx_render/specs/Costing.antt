@@ -20,7 +20,7 @@ use Rattle.rx_fiber.specs.Reading.{IsOld}
 use Rattle.rx_fiber.specs.Stood.{StandsSame}
 use Rattle.rx_fiber.specs.Surround.{given_along}
 use Rattle.rx_ways.specs.Ways.{CoversIf}
-use Rattle.cost_laws.specs.Evaluated.{beside_kept, is_as_before, stood}
+use Rattle.cost_laws.specs.Evaluated.{stood}
 use Rattle.cost_laws.specs.Left.{Flags, MayGo, flag, next_evaluated, unit_flags}
 use Rattle.cost_laws.specs.Undue.{IsUndue}
 use Rattle.cost_laws.specs.Untouched.{is_untouched}
@@ -42,18 +42,18 @@ CausesAt s way kept (at_place levels fs cs e old) = TellsIf s kept old × Covers
 CausesAt s way kept (at_end levels fs o done) = Unit {0}
 CausesAt s way kept (ended p) = Unit {0}
 
--- What a unit pays that comes from one cursor to another, with these flags before and after: it evaluates what is told of it, and tries no untouched boundary. Past an attempt it evaluates nothing, and the boundary is untouched; past a subtree it evaluates nothing, the subtree's element is as before, and no update of its instances is due.
+-- What a unit pays that comes from one cursor to another, with these flags before and after: it evaluates what is told of it, and tries no untouched boundary. Past an attempt it evaluates nothing, and the boundary is untouched; past a subtree it evaluates nothing, and no update of its instances is due.
 pub data UnitPays (s : Sight) (current : Shape Fiber) (bodies : ℕ) (us : Flags) : (before : Cursor) → Flags → (after : Cursor) → Type 0 where
-  by_unit : {c : Cursor} → MayGo s us c → bodies ≡ next_evaluated s us c → UnitPays s current bodies us c (unit_flags s us c) (unit s c)
+  by_unit : {c : Cursor} → MayGo s us c → bodies ≡ next_evaluated s c → UnitPays s current bodies us c (unit_flags s us c) (unit s c)
   past_attempt : {n : ℕ} {fs : List Frame} {cs : Contexts} {key : Key} {f : Element} {es : Elements} {a : Awaits} {ns kept : Forest} {o : Option ℕ}
       → bodies ≡ 0 → IsLinked current → StandsSame current (given_along fs) o → IsOld current o (Some (node (boundary key f es) (of_boundary (Hidden a)) ns kept))
       → sees_refresh s ≡ false → may_throw_anew s ≡ false → AreUnresolved s a → AllValuesAgree (without_lanes s) s ns
       → is_untouched s (stood (flag us)) (boundary key f es) (Some (node (boundary key f es) (of_boundary (Hidden a)) ns kept)) ≡ true
       → UnitPays s current bodies us (at_place (suc n) fs cs (boundary key f es) (Some (node (boundary key f es) (of_boundary (Hidden a)) ns kept)))
-      (beside_kept ∷ us)
+      (flag us ∷ us)
       (open_part n fs (falling (boundary key f es) (Some (node (boundary key f es) (of_boundary (Hidden a)) ns kept)) a) (part cs (f ∷ []) kept))
   past_subtree : {n : ℕ} {fs : List Frame} {cs : Contexts} {e : Element} {x : Node} {o : Option ℕ}
-      → bodies ≡ 0 → IsLinked current → ReadsTheSame s current (given_along fs) cs o x → IsOld current o (Some x) → element_of x ≡ e → IsIdle s x → ForEach (IsUndue s) x → is_as_before (flag us) e (Some x) ≡ true
+      → bodies ≡ 0 → IsLinked current → ReadsTheSame s current (given_along fs) cs o x → IsOld current o (Some x) → element_of x ≡ e → IsIdle s x → ForEach (IsUndue s) x
       → UnitPays s current bodies us (at_place (suc n) fs cs e (Some x)) us (arrive (suc n) fs (Some x))
 
 -- so many bodies are paid if the parts come to a cursor, and these are the flags there

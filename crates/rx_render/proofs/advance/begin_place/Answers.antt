@@ -15,7 +15,7 @@ use Rattle.rx_render.specs.declared.at.At.TheVariants.{Begins}
 use Rattle.rx_render.specs.Advancing.{at_opened, Advances}
 use Rattle.rx_render.proofs.Advancing.{can_begin, waits_below, throws_below, child_advances, leaf_advances, throws_advances, waits_advances, hidden_left, hidden_tried, hidden_advances, taken_made, taken_advances, opened_comes}
 use Rattle.rx_fiber.specs.Subtrees.{IsGathered}
-use Rattle.rx_links.specs.Drafts.{Trees, old_of}
+use Rattle.rx_links.specs.Drafts.{Trees}
 use Rattle.rx_fiber.specs.Fibers.{Fiber, as_cloned}
 use Rattle.rx_render.specs.Gathers.{IsGathering}
 use Rattle.rx_render.proofs.Gathering.{child_gathered, leaf_gathered, again_gathered, passed_gathered, taken_node}
@@ -50,7 +50,7 @@ returns-in-Child-clause-comes g c s sees =
     (subst (BeginsPlace s (is_way c.args.scene.now.ways.now) (kept_hooks c.args.hooks.now) c.args.tree.now c.args.contexts.now c.begin.new.tree c.begin.new.contexts c.args.id) c.in-Child.is (c.in_ok-begun.ensures.begun s sees))
     (child_paid s c.args.scene.now sees (kept_hooks c.args.hooks.now) c.args.tree.now c.args.contexts.now c.args.id c.in_ok-begun.evaluated c.facts.ensures.fits
     (record { none = c.in_ok-begun.ensures.none; some = c.in_ok-begun.ensures.body }) (λ n fs cs e old. c.in_ok-begun.ensures.few s n fs cs e old sees) (λ v there none same stood. c.in_ok-begun.ensures.tries v there none same stood (ap awaited_again c.in-Child.is))
-    c.begin.new.tree c.in_ok-begun.begun c.in-Child.child c.begin.ensures.current c.in-Child.is c.in_ok-begun.ensures.kids)
+    c.begin.new.tree c.in_ok-begun.begun c.in-Child.child c.begin.ensures.current c.in-Child.is (λ v there opens. let k = c.in_ok-begun.ensures.kids v there opens in (k.0, k.2, k.5)))
 
 pub returns-in-Leaf-clause-comes : goal.returns-in-Leaf-clause-comes
 returns-in-Leaf-clause-comes g c s sees =
@@ -58,7 +58,7 @@ returns-in-Leaf-clause-comes g c s sees =
     (subst (BeginsPlace s (is_way c.args.scene.now.ways.now) (kept_hooks c.args.hooks.now) c.args.tree.now c.args.contexts.now c.begin.new.tree c.begin.new.contexts c.args.id) c.in-Leaf.is (c.in_ok-begun.ensures.begun s sees))
     (leaf_paid s c.args.scene.now sees (kept_hooks c.args.hooks.now) c.args.tree.now c.args.contexts.now c.args.id c.in_ok-begun.evaluated c.facts.ensures.fits
     (record { none = c.in_ok-begun.ensures.none; some = c.in_ok-begun.ensures.body }) (λ n fs cs e old. c.in_ok-begun.ensures.few s n fs cs e old sees) (λ v there none same stood. c.in_ok-begun.ensures.tries v there none same stood (ap awaited_again c.in-Leaf.is))
-    c.begin.new.tree c.in_ok-begun.begun c.begin.ensures.current c.in-Leaf.is c.in_ok-begun.ensures.kids)
+    c.begin.new.tree c.in_ok-begun.begun c.begin.ensures.current c.in-Leaf.is (λ v there opens. let k = c.in_ok-begun.ensures.kids v there opens in (k.0, k.2, k.5)))
 
 pub returns-in_ok-at-in-Suspended-clause-comes : goal.returns-in_ok-at-in-Suspended-clause-comes
 returns-in_ok-at-in-Suspended-clause-comes g c s sees =
@@ -120,17 +120,17 @@ returns-in-Taken-clause-comes g c s sees =
     (ap (λ b. if b then 1 else 0) (c.in_ok-begun.ensures.taken (ap is_taken c.in-Taken.is))) c.facts.ensures.linked
     (subst (BeginsPlace s (is_way c.args.scene.now.ways.now) (kept_hooks c.args.hooks.now) c.args.tree.now c.args.contexts.now c.begin.new.tree st c.args.id) c.in-Taken.is (c.in_ok-begun.ensures.begun s sees))
     (λ x was. subst (λ l. EachBut (is_way c.args.scene.now.ways.now) (Rests (kept_hooks c.args.hooks.now) l s.cut) x) (sym sees.lanes)
-    (subst (λ k. EachBut (is_way c.args.scene.now.ways.now) (Rests (kept_hooks c.args.hooks.now) c.args.scene.now.lanes k) x) (sym sees.cut) (c.in_ok-begun.ensures.rests (ap is_taken c.in-Taken.is) x was))) c.facts.ensures.fits (c.in_ok-begun.ensures.again (ap is_taken c.in-Taken.is))
+    (subst (λ k. EachBut (is_way c.args.scene.now.ways.now) (Rests (kept_hooks c.args.hooks.now) c.args.scene.now.lanes k) x) (sym sees.cut) (c.in_ok-begun.ensures.rests (ap is_taken c.in-Taken.is) x was)))
     (passed_flags c.args.tree.now c.begin.new.tree c.args.id c.pass.result c.facts.ensures.fits c.facts-in-Taken.ensures.fits c.begin.ensures.current (c.in_ok-begun.ensures.taken_over (ap is_taken c.in-Taken.is)) c.pass.ensures.next)
     (λ levels fs x. c.pass.ensures.stands st levels fs x) (λ levels fs x. c.pass.ensures.leads st levels fs x))
 
 pub returns-in-Child-clause-gathered : goal.returns-in-Child-clause-gathered
 returns-in-Child-clause-gathered g c current h =
-    child_gathered c.args.tree.now c.begin.new.tree c.args.id c.facts.ensures.fits c.in_ok-begun.evaluated c.in_ok-begun.begun c.in_ok-begun.ensures.kids c.begin.ensures.current h c.in-Child.child c.in-Child.is
+    child_gathered c.args.tree.now c.begin.new.tree c.args.id c.facts.ensures.fits c.in_ok-begun.begun (λ v there opens. let k = c.in_ok-begun.ensures.kids v there opens in (k.0, k.2, k.5)) c.begin.ensures.current h c.in-Child.child c.in-Child.is
 
 pub returns-in-Leaf-clause-gathered : goal.returns-in-Leaf-clause-gathered
 returns-in-Leaf-clause-gathered g c current h =
-    leaf_gathered c.args.tree.now c.begin.new.tree c.args.id c.facts.ensures.fits c.in_ok-begun.evaluated c.in_ok-begun.begun c.in_ok-begun.ensures.kids c.begin.ensures.current h c.in-Leaf.is
+    leaf_gathered c.args.tree.now c.begin.new.tree c.args.id c.facts.ensures.fits c.in_ok-begun.begun (λ v there opens. let k = c.in_ok-begun.ensures.kids v there opens in (k.0, k.2, k.5)) c.begin.ensures.current h c.in-Leaf.is
 
 pub returns-in_ok-at-in-Suspended-clause-gathered : goal.returns-in_ok-at-in-Suspended-clause-gathered
 returns-in_ok-at-in-Suspended-clause-gathered g c current h =

@@ -1,7 +1,7 @@
-use Rattle.std.proofs.Common.{false, sym, ap, ◌∙◌, subst}
+use Rattle.std.proofs.Common.{sym, ap, ◌∙◌, subst}
 use Rattle.rx_base.specs.Awaits.{one}
 use Rattle.rx_lists.specs.Shapes.{none}
-use Rattle.rx_links.specs.Drafts.{grafted, taken}
+use Rattle.rx_links.specs.Drafts.{taken}
 use Rattle.rx_meaning.specs.Cursor.{unwind}
 use Rattle.rx_fiber.specs.Unwound.{IsLeftAt}
 use Rattle.rx_render.specs.declared.at.At.TheVariants.{Over}
@@ -9,7 +9,6 @@ use Rattle.rx_render.specs.Rendering.{ComesTo, to_wait}
 use Rattle.rx_render.proofs.Advancing.{stopped, opened_comes}
 use Rattle.cost_laws.specs.Left.{unwound}
 use Rattle.rx_render.specs.Costing.{HasFlags}
-use Rattle.rx_fiber.specs.Subtrees.{IsGathered}
 use Rattle.rx_render.specs.Gathers.{IsGathering}
 use Rattle.rx_render.proofs.Gathering.{unwound_gathered}
 use Rattle.rx_render.proofs.Paying.{unwound_flags}
@@ -42,7 +41,7 @@ returns-in_ok-opened-in-Some-clause-flags c fs us h within =
     c.unwind_to_boundary.new.awaits
     (stopped c.args.tree.now c.unwind_to_boundary.new.tree c.args.contexts.now c.unwind_to_boundary.new.contexts c.args.id c.in-Some.boundary c.awaits_for-awaits.result
     c.unwind_to_boundary.new.awaits c.requires c.in-Some.ensures.left)
-    c.open_fallback.ensures.current c.in_ok-opened-in-Some.ensures.kids)
+    c.open_fallback.ensures.current (λ v there. let k = c.in_ok-opened-in-Some.ensures.kids v there in (_, k.2)))
 
 pub returns-in-None-clause-gathered : goal.returns-in-None-clause-gathered
 returns-in-None-clause-gathered c current h = subst (λ x. IsGathering x Over) (sym c.discard.ensures) (tt, tt)
