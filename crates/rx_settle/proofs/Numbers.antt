@@ -1,5 +1,6 @@
 -- How often a number stands among the instances of a tree, and of a tree without what stayed the same.
 use Rattle.std.proofs.Common.{◌≡◌, ℕ, zero, suc, ◌+◌, ◌<◌, ◌≤◌, Bool, true, false, ◌||◌, ◌&&◌, not, cond, nat_eq, Option, Some, None, List, [], ◌∷◌, slice_get, refl, sym, ap, ◌∙◌, subst, arith}
+use Rattle.std.specs.List.{list_any}
 use Rattle.std.proofs.lemmas.Bool.Decides.{nat_tests}
 use Rattle.rx_elem.specs.Spots.{Mounted, at_root, mounted, numbers_of, spots}
 use Rattle.rx_elem.specs.Trees.{Node}
@@ -8,7 +9,7 @@ use Rattle.rx_meaning.specs.Settled.{HasOwnNumbers, times_numbered_if}
 use Rattle.commit_laws.proofs.OwnNumbers.{occurs, spots_times}
 use Rattle.rx_pruned.specs.Pruned.{ArePruned}
 use Rattle.prune_laws.proofs.Leaving.{left_alike}
-use Rattle.rx_settle.specs.Passes.{has_instance, is_gone}
+use Rattle.rx_settle.specs.Passes.{has_instance}
 use Rattle.rx_settle.proofs.Apart.{all_listed}
 
 -- ---- lists
@@ -129,12 +130,12 @@ module _ (old : Option Node) (new : Node) (pruned_old : Option Node) (pruned_new
       let never = stands_never n (Some new) none in
       (found_in n pruned_old (omega arith), missing_in n (Some pruned_new) (omega arith))
 
--- if each instance of an old list has its number in the new one, none is gone
-pub none_gone : (before ms : List Mounted) → ((k : ℕ) (m : Mounted) → slice_get before k ≡ Some m → has_instance ms m.number ≡ true) → (n : ℕ) → is_gone before ms n ≡ false
-none_gone before ms each n = go (has_instance before n) refl
+-- if each old number is that of an instance of the new list, none is gone
+pub none_gone : (before : List ℕ) (ms : List Mounted) → ((k n : ℕ) → slice_get before k ≡ Some n → has_instance ms n ≡ true) → (n : ℕ)
+    → (list_any (nat_eq n) before && not (has_instance ms n)) ≡ false
+none_gone [] ms each n = refl
+none_gone (x ∷ before) ms each n = go (nat_eq n x) refl (none_gone before ms (λ k m at. each (suc k) m at) n)
   where
-    go : (b : Bool) → has_instance before n ≡ b → (b && not (has_instance ms n)) ≡ false
-    go false e = refl
-    go true e =
-        let t = is_there before n e in
-        ap not (subst (λ (k : ℕ). has_instance ms k ≡ true) t.number_is (each t.place t.instance t.at))
+    go : (b : Bool) → nat_eq n x ≡ b → (list_any (nat_eq n) before && not (has_instance ms n)) ≡ false → ((b || list_any (nat_eq n) before) && not (has_instance ms n)) ≡ false
+    go true e rest = ap not (subst (λ (k : ℕ). has_instance ms k ≡ true) (sym (same_number n x e)) (each zero x refl))
+    go false e rest = rest

@@ -14,7 +14,7 @@ use Rattle.rx_settle.proofs.Making.{below_or_not}
 use Rattle.rx_settle.proofs.Numbers.{has_itself, stands_once}
 
 -- an instance has a number if the number is one of theirs
-has_numbers : (ms : List Mounted) (n : ℕ) → has_instance ms n ≡ list_any (nat_eq n) (numbers_of ms)
+pub has_numbers : (ms : List Mounted) (n : ℕ) → has_instance ms n ≡ list_any (nat_eq n) (numbers_of ms)
 has_numbers [] n = refl
 has_numbers (x ∷ ms) n = ap (λ b. nat_eq n x.number || b) (has_numbers ms n)
 

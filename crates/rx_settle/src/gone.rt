@@ -2,8 +2,7 @@
 ghost use Rattle.std.specs.Prelude.{◌≡◌, ℕ, true, not, ◌&&◌, nat_eq, IfOk, Some, slice_get};
 ghost use Rattle.rx_set.specs.Sets.{holds};
 ghost use Rattle.std.specs.List.{list_any};
-ghost use Rattle.rx_elem.specs.Spots as spots;
-ghost use Rattle.rx_settle.specs.Passes.{has_instance, is_gone};
+ghost use Rattle.rx_settle.specs.Passes.{has_instance};
 
 use rx_set::NumberSet;
 use rx_spots::Mounted;
@@ -20,52 +19,51 @@ fn numbers_of(alloc: Global, instances: &[Mounted]) -> Result<NumberSet, AllocEr
     Ok(known)
 }
 
-// Whether each old instance has the number of the one at its place now: then none is gone.
-fn stand_as_before(before: &[Mounted], instances: &[Mounted]) -> bool
-    ensures { result ≡ true → (k : ℕ) (m : spots.Mounted) → slice_get before.now k ≡ Some m → has_instance instances.now m.number ≡ true }
+// Whether the number of each old instance is that of the one at its place now: then none is gone.
+fn stand_as_before(before: &[u64], instances: &[Mounted]) -> bool
+    ensures { result ≡ true → (k n : ℕ) → slice_get before.now k ≡ Some n → has_instance instances.now n ≡ true }
 {
     if before.len() > instances.len() {
         return false;
     }
     'comparing: for place in 0..before.len() {
-        let old = &before[place];
         let new = &instances[place];
-        if old.number() != new.number() {
+        if before[place] != new.number() {
             return false;
         }
     }
     true
 }
 
-// The numbers of the instances whose numbers are none of these.
+// Those of some numbers that are none of the known ones.
 fn numbers_beside(
     alloc: Global,
-    before: &[Mounted],
+    before: &[u64],
     known: &NumberSet,
 ) -> Result<Vec<u64>, AllocError>
-    ensures { IfOk result (λ gone. (n : ℕ) → list_any (nat_eq n) gone.items ≡ (has_instance before.now n && not (holds known.now n))) }
+    ensures { IfOk result (λ gone. (n : ℕ) → list_any (nat_eq n) gone.items ≡ (list_any (nat_eq n) before.now && not (holds known.now n))) }
 {
     let mut gone = Vec::new(alloc);
-    'leaving: for instance in before {
-        let number = instance.number();
-        if !known.has(number) {
-            gone.push(number)?;
+    'leaving: for number in before {
+        if !known.has(*number) {
+            gone.push(*number)?;
         }
     }
     Ok(gone)
 }
 
-/// The numbers of the old instances that are no longer there. If each stands where it stood, no set of numbers is made.
+/// Of the numbers of the old instances, those of the ones that are no longer there. If each stands where it stood, no set of
+/// numbers is made.
 ///
 /// # Errors
 ///
 /// Only if out of memory.
 pub(crate) fn gone_from(
     alloc: Global,
-    before: &[Mounted],
+    before: &[u64],
     instances: &[Mounted],
 ) -> Result<Vec<u64>, AllocError>
-    ensures { IfOk result (λ gone. (n : ℕ) → list_any (nat_eq n) gone.items ≡ is_gone before.now instances.now n) }
+    ensures { IfOk result (λ gone. (n : ℕ) → list_any (nat_eq n) gone.items ≡ (list_any (nat_eq n) before.now && not (has_instance instances.now n))) }
 {
     if stand_as_before(before, instances) {
         return Ok(Vec::new(alloc));

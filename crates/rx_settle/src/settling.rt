@@ -24,7 +24,7 @@ use rx_check::Checked;
 use rx_hook_store::HookStore;
 use rx_lane::Lanes;
 use rx_node::Node;
-use rx_spots::{Mounted, have_same_instances, mounted, mounted_among};
+use rx_spots::{Mounted, have_same_instances, mounted, mounted_among, mounted_numbers};
 use std::alloc::{AllocError, Global};
 
 // Settles the hooks of the instances of a tree, of which those in whose hooks the render has work are found, and drops those of
@@ -48,7 +48,7 @@ fn settle_trees(
     ensures err { OnErr result ((s : State) → DoneBefore cut s.journal.updates → KeepsAllHooks checked.now s (kept_hooks store.old)
         → KeepsAllHooks checked.now s (kept_hooks store.new)) }
 {
-    let before = mounted(alloc, old)?;
+    let before = mounted_numbers(alloc, old)?;
     let gone = gone_from(alloc, &before, instances)?;
     let made = mount_new(alloc, instances, first)?;
     store.reserve(made.len() as u64)?;

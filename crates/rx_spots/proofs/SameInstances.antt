@@ -1,5 +1,5 @@
 -- Trees with the same instances, part by part.
-use Rattle.std.proofs.Common.{◌≡◌, ℕ, zero, suc, ◌+◌, ◌≤◌, Bool, true, false, not, cond, nat_eq, List, [], ◌∷◌, ◌++◌, Option, Some, None, drop, option_map, refl, sym, ap, ◌∙◌, arith, add-one}
+use Rattle.std.proofs.Common.{◌≡◌, ℕ, zero, suc, ◌+◌, ◌<◌, ◌≤◌, Bool, true, false, not, cond, nat_eq, List, [], ◌∷◌, ◌++◌, Option, Some, None, length, get_or, drop, option_map, refl, sym, ap, ◌∙◌, append_assoc, arith, add-one}
 use Rattle.std.specs.List.{cons_option}
 use Rattle.std.specs.Option.{option_eq}
 use Rattle.std.proofs.lemmas.List.{map-append}
@@ -9,7 +9,7 @@ use Rattle.rx_elem.specs.Spots.{Around, Mounted, around_children, mounted_at, mo
 use Rattle.rx_node.specs.Mounts.{mounts_within}
 use Rattle.rx_spots.specs.Places.{HaveSame, HaveSameIn, mounting_at, own_number}
 use Rattle.rx_spots.proofs.Lists.{same_number}
-use Rattle.rx_spots.proofs.Mounting.{mounted-node, own_mounted}
+use Rattle.rx_spots.proofs.Mounting.{mounted-more, mounted-node, own_mounted}
 use Rattle.rx_spots.proofs.Nothing.{nothing_mounted}
 
 -- numbers that are not tested to differ are the same
@@ -51,6 +51,29 @@ numbers-node a n =
     let inside = mounted_at (spots_in (around_children a (mark_of n)) (children_of n)) in
     let behind = mounted_at (spots_in a (fallback_of n)) in
     ap numbers_of (mounted-node a n) ∙ (numbers-append own (inside ++ behind) ∙ (λ i. own_numbers a (mark_of n) i ++ numbers-append inside behind i))
+
+-- the numbers of the parts added one after another are all
+pub numbers-parts : (a : Around) (n : Node) (before own inside all : List ℕ) → own ≡ before ++ cons_option (own_number (mark_of n)) []
+    → inside ≡ own ++ numbers_of (mounted_at (spots_in (around_children a (mark_of n)) (children_of n))) → all ≡ inside ++ numbers_of (mounted_at (spots_in a (fallback_of n)))
+    → all ≡ before ++ numbers_of (mounted_at (spots a n))
+numbers-parts a n before own inside all e f g =
+    let mine = cons_option (own_number (mark_of n)) [] in
+    let below = numbers_of (mounted_at (spots_in (around_children a (mark_of n)) (children_of n))) in
+    let behind = numbers_of (mounted_at (spots_in a (fallback_of n))) in
+    g
+    ∙ (ap (λ xs. xs ++ behind) (f ∙ ap (λ xs. xs ++ below) e)
+    ∙ (append_assoc (before ++ mine) below behind ∙ (append_assoc before mine (below ++ behind) ∙ ap (λ xs. before ++ xs) (sym (numbers-node a n)))))
+
+-- the numbers of one node more
+pub numbers-more : (a : Around) (ns : List (Option Node)) (k : ℕ) (o : Option Node) (n : Node) (before after : List ℕ) → k < length ns → o ≡ get_or ns k o → o ≡ Some n
+    → after ≡ before ++ numbers_of (mounted_at (spots a n))
+    → after ++ numbers_of (mounted_at (spots_in a (forest (drop (k + 1) ns)))) ≡ before ++ numbers_of (mounted_at (spots_in a (forest (drop k ns))))
+numbers-more a ns k o n before after h e f g =
+    let here = mounted_at (spots a n) in
+    let rest = mounted_at (spots_in a (forest (drop (k + 1) ns))) in
+    ap (λ xs. xs ++ numbers_of rest) g
+    ∙ (append_assoc before (numbers_of here) (numbers_of rest)
+    ∙ ap (λ xs. before ++ xs) (sym (numbers-append here rest) ∙ ap numbers_of (mounted-more a ns k o n [] here h e f refl)))
 
 -- two nodes have the same if their parts have
 pub node_same : (old new : Node) → own_number (mark_of old) ≡ own_number (mark_of new) → HaveSameIn (children_of old) (children_of new)

@@ -7,6 +7,7 @@ mod boundaries;
 mod counts;
 mod instance;
 mod listing;
+mod numbers;
 mod picking;
 
 pub use alike::have_same_instances;
@@ -15,4 +16,5 @@ pub use boundaries::awaited;
 pub use counts::{hidden_count, node_count};
 pub use instance::Mounted;
 pub use listing::mounted;
+pub use numbers::mounted_numbers;
 pub use picking::mounted_among;

@@ -1,7 +1,6 @@
 use Rattle.std.proofs.Common.{ap, sym, ◌∙◌, ◌&&◌, not, nat_eq, ℕ, List}
 use Rattle.std.specs.List.{list_any}
 use Rattle.std.proofs.lemmas.Result.{IfOk-weaker}
-use Rattle.rx_settle.specs.Passes.{has_instance}
 use Rattle.rx_settle.proofs.Numbers.{none_gone}
 use Rattle.rx_settle.proofs.gone.gone_from.Goals as goal
 
@@ -11,4 +10,4 @@ returns-then-stand_as_before c n =
 
 pub returns : goal.returns
 returns c =
-    IfOk-weaker c.numbers_beside.result _ _ (λ gone are n. are n ∙ ap (λ b. has_instance c.args.before.now n && not b) (c.in_ok-known.ensures n)) c.numbers_beside.ensures
+    IfOk-weaker c.numbers_beside.result _ _ (λ gone are n. are n ∙ ap (λ b. list_any (nat_eq n) c.args.before.now && not b) (c.in_ok-known.ensures n)) c.numbers_beside.ensures

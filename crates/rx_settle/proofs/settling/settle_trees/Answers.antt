@@ -1,13 +1,14 @@
-use Rattle.std.proofs.Common.{◌∙◌, ℕ, List, None, IsSome, cond, nat_eq, sym, ap, subst, refl}
+use Rattle.std.proofs.Common.{◌∙◌, ◌&&◌, not, ℕ, List, None, IsSome, cond, nat_eq, sym, ap, subst, refl}
 use Rattle.std.specs.List.{list_any}
 use Rattle.std.specs.Option.{option_copied}
-use Rattle.rx_elem.specs.Spots.{Mounted, mounted}
+use Rattle.rx_elem.specs.Spots.{mounted}
 use Rattle.rx_hook_store.specs.Store.{kept_hooks}
 use Rattle.rx_hook_store.proofs.Staying.{all_stay}
 use Rattle.rx_settle.specs.Found.{seen}
-use Rattle.rx_settle.specs.Passes.{is_gone}
+use Rattle.rx_settle.specs.Passes.{has_instance}
 use Rattle.rx_settle.proofs.Again.{goes_on_before}
 use Rattle.rx_settle.proofs.Found.{kept_of, settled_over}
+use Rattle.rx_settle.proofs.Staying.{has_numbers}
 use Rattle.rx_settle.proofs.Whole.{all_go_on, on_err}
 use Rattle.rx_settle.proofs.settling.settle_trees.Goals as goal
 
@@ -36,12 +37,14 @@ settle_each-requires-clause-kept c =
 pub returns-clause-settled : goal.returns-clause-settled
 returns-clause-settled c =
     let old_are = c.deref.ensures.value ∙ c.in_ok-before.ensures in
+    let before = mounted (option_copied c.args.old) in
     let inserted = kept_hooks c.insert_all.new.store in
     settled_over c.args.checked.now c.args.lanes c.args.cut c.args.first (kept_hooks c.args.store.now) (kept_hooks c.reserve.new.self) (kept_hooks c.render_shown.new.store)
-    (kept_hooks c.settle_each.new.store) inserted (kept_hooks c.remove_all.new.store) (mounted (option_copied c.args.old)) c.args.instances.now (seen c.args.working.now) c.in_ok-made.made.items
+    (kept_hooks c.settle_each.new.store) inserted (kept_hooks c.remove_all.new.store) before c.args.instances.now (seen c.args.working.now) c.in_ok-made.made.items
     c.requires.apart c.requires.working c.in_ok-made.ensures c.reserve.ensures.same c.render_shown.ensures.keeps c.in_ok-render_shown.ensures.rendered c.render_shown.ensures.others
     c.settle_each.ensures.settled c.settle_each.ensures.others c.insert_all.ensures
     (λ n.
     c.remove_all.ensures n
     ∙ ap (λ b. cond b None (inserted n))
-    (ap (λ (ks : List ℕ). list_any (nat_eq n) ks) c.deref-2.ensures.value ∙ (c.in_ok-gone.ensures n ∙ ap (λ (ms : List Mounted). is_gone ms c.args.instances.now n) old_are)))
+    (ap (λ (ks : List ℕ). list_any (nat_eq n) ks) c.deref-2.ensures.value
+    ∙ (c.in_ok-gone.ensures n ∙ ap (λ b. b && not (has_instance c.args.instances.now n)) (ap (λ (ks : List ℕ). list_any (nat_eq n) ks) old_are ∙ sym (has_numbers before n)))))
