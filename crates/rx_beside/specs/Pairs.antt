@@ -1,13 +1,14 @@
 -- Made fibers beside their alternates.
 use Rattle.std.specs.Prelude.{◌≡◌, ℕ, ◌+◌, ◌-◌, ◌≤◌, Bool, true, false, List, [], ◌∷◌, ◌++◌, All, Option, Some, None, IfSome, length}
 use Rattle.rx_elem.specs.Elements.{is_present}
-use Rattle.rx_elem.specs.Trees.{Node, Forest, forest, element_of}
+use Rattle.rx_elem.specs.Trees.{Mark, Node, Forest, forest, element_of, shows_fallback}
 use Rattle.rx_lists.specs.Shapes.{size}
 use Rattle.rx_links.specs.Drafts.{Trees, Makes, old_of}
-use Rattle.rx_fiber.specs.Fibers.{Fiber}
+use Rattle.rx_links.specs.Readers.{made_value_of, value_of}
+use Rattle.rx_fiber.specs.Fibers.{Fiber, begun}
 use Rattle.rx_fiber.specs.OldLists.{filled}
 use Rattle.rx_compare.specs.InPlace.{IsInPlace}
-use Rattle.rx_pruned.specs.Pruned.{Pruned, PrunedInPlace}
+use Rattle.rx_pruned.specs.Pruned.{Pruned, PrunedInPlace, StaysBare}
 use Rattle.rx_read.specs.Lists.{list_of}
 use Rattle.rx_read.specs.Places.{places_in, first_places, first_node}
 use Rattle.rx_beside.specs.declared.lists.PrunedLists.{PrunedLists}
@@ -44,6 +45,24 @@ pub record IsOnly (t : Trees Fiber) (h : Heads) (c : Pair) : Type 0 where
   pub first : h.new ≡ Some c.new
   pub old_places : places_in 0 (list_of t h.old) ≡ first_node (list_of t (Some c.old)) ∷ []
   pub new_places : places_in 0 (list_of t h.new) ≡ first_node (list_of t (Some c.new)) ∷ []
+
+-- two fibers stand for an instance that stays, and had and has no effects
+pub record AreBare (u v : Fiber) : Type 0 where
+  pub had : Mark
+  pub mark : Mark
+  pub was : u.stage ≡ begun had
+  pub is : v.stage ≡ begun mark
+  pub bare : StaysBare had mark
+  pub had_shown : shows_fallback had ≡ false
+  pub shown : shows_fallback mark ≡ false
+
+-- so do those of a pair
+pub record IsBare (t : Trees Fiber) (c : Pair) : Type 0 where
+  pub was : Fiber
+  pub is : Fiber
+  pub old : Some was ≡ value_of t.current c.old
+  pub new : Some is ≡ made_value_of t.draft c.new
+  pub are : AreBare was is
 
 -- Two lists of which each child stands where it stood, and what is left of them as pairs of fibers: the same nodes may be left out, unless something up to their host is new or moved.
 pub data AreInPlace (t : Trees Fiber) (displaced : Bool) : (old new : List (Option Node)) → List (Option Pair) → Type 0 where

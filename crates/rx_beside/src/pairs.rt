@@ -10,7 +10,7 @@ ghost use Rattle.rx_read.specs.Places.{places_in, first_node};
 ghost use Rattle.rx_pruned.specs.Pruned.{GoesOn, StaysBare, displaced_below, PrunedInPlace};
 ghost use Rattle.rx_beside.specs.Alike.{AllTakeAlike};
 ghost use Rattle.rx_beside.specs.Children.{IsNode};
-ghost use Rattle.rx_beside.specs.Pairs.{AreSame, IsPair, StandsInPlace, PassesTo, IsPruned, AddsPruned};
+ghost use Rattle.rx_beside.specs.Pairs.{AreBare, AreSame, IsBare, IsOnly, IsPair, StandsInPlace, PassesTo, IsPruned, AddsPruned};
 ghost use Rattle.rx_beside.specs.Slots.{IsSlot, AreLists};
 
 use crate::children::fibers_of;
@@ -19,7 +19,7 @@ use crate::lists::{
     over_same, read_wholes, replace, vacant_places, with_gone,
 };
 use crate::marks::came_out_same;
-use crate::places::{Heads, Pair, is_left, is_made_for, only_pair, pairs_in_place};
+use crate::places::{Heads, Pair, are_last, is_left, is_made_for, pairs_in_place, stand_first};
 use crate::taking::takes_over;
 use rx_fiber::{Fiber, Stage};
 use rx_links::{FiberId, FiberTree};
@@ -92,48 +92,99 @@ fn or_moved(displaced: bool, moved: bool) -> bool
     displaced || moved
 }
 
-// The only child of an instance that stays and has no effects, and that of its alternate, if the one is the other in place. A
-// commit has nothing to do for the instance itself.
-fn below_bare(tree: &FiberTree<Fiber>, pair: &Pair) -> Option<Pair>
-    requires pair { IsPair tree.now pair.now }
-    requires stands { StandsInPlace tree.now pair.now }
-    ensures passes { IfSome result (PassesTo tree.now false pair.now) }
-    ensures lower { IfSome result (λ b. size (list_of tree.now (Some b.new)) < size (list_of tree.now (Some pair.now.new))) }
+// An only child beside its alternate, which was an only child too; and whether a commit has nothing to do for it itself: it is an
+// instance that stays and has no effects.
+#[derive(Drop)]
+struct Only {
+    pair: Pair,
+    bare: bool,
+}
+
+// Whether two fibers stand for an instance that stays, and had and has no effects.
+fn are_bare(was: &Fiber, is: &Fiber) -> bool
+    ensures { result ≡ true → AreBare was.now is.now }
+{
+    if let Stage::Begun(had) = was.stage()
+        && let Stage::Begun(mark) = is.stage()
+    {
+        return stays_bare(had, mark);
+    }
+    false
+}
+
+// The only children of two lists, if the one is the other in place. Each fiber is looked at once.
+fn only_pair(tree: &FiberTree<Fiber>, heads: &Heads) -> Option<Only>
+    requires old { IfSome heads.now.old (IsIn tree.now) }
+    requires made { IfSome heads.now.new (Makes tree.now.draft) }
+    ensures only { IfSome result (λ o. IsOnly tree.now heads.now o.pair) }
+    ensures bare { IfSome result (λ o. o.bare ≡ true → IsBare tree.now o.pair) }
 {
     tree.facts();
-    let Stage::Begun(had) = tree.value(pair.old).stage() else {
-        return None;
+    let pair = Pair {
+        old: heads.old?,
+        new: heads.new?,
     };
-    let Stage::Begun(mark) = tree.value(pair.new).stage() else {
-        return None;
-    };
-    if !stays_bare(had, mark) {
+    if !is_made_for(tree, &pair) {
         return None;
     }
+    if !are_last(tree, &pair) {
+        return None;
+    }
+    let was = tree.value(pair.old);
+    let is = tree.value(pair.new);
+    if !stand_first(was, is) {
+        return None;
+    }
+    Some(Only {
+        bare: are_bare(was, is),
+        pair,
+    })
+}
+
+// The only child of an instance that stays and has no effects, and that of its alternate, if the one is the other in place. A
+// commit has nothing to do for the instance itself.
+fn below_bare(tree: &FiberTree<Fiber>, only: &Only) -> Option<Only>
+    requires pair { IsPair tree.now only.now.pair }
+    requires stands { StandsInPlace tree.now only.now.pair }
+    requires bare { only.now.bare ≡ true → IsBare tree.now only.now.pair }
+    ensures passes { IfSome result (λ o. PassesTo tree.now false only.now.pair o.pair) }
+    ensures bare { IfSome result (λ o. o.bare ≡ true → IsBare tree.now o.pair) }
+    ensures lower { IfSome result (λ o. size (list_of tree.now (Some o.pair.new)) < size (list_of tree.now (Some only.now.pair.new))) }
+{
+    if !only.bare {
+        return None;
+    }
+    tree.facts();
     let heads = Heads {
-        old: tree.first_child(pair.old),
-        new: made_child(tree, pair.new),
+        old: tree.first_child(only.pair.old),
+        new: made_child(tree, only.pair.new),
     };
     only_pair(tree, &heads)
 }
 
 // Where a chain of such instances ends that begins with an only child, unless something from it up to its host is new or moved.
-fn end_of_chain(tree: &FiberTree<Fiber>, pair: &Pair, displaced: bool) -> Pair
-    requires pair { IsPair tree.now pair.now }
-    requires stands { StandsInPlace tree.now pair.now }
-    ensures { PassesTo tree.now displaced pair.now result }
+fn end_of_chain(tree: &FiberTree<Fiber>, only: &Only, displaced: bool) -> Pair
+    requires pair { IsPair tree.now only.now.pair }
+    requires stands { StandsInPlace tree.now only.now.pair }
+    requires bare { only.now.bare ≡ true → IsBare tree.now only.now.pair }
+    ensures { PassesTo tree.now displaced only.now.pair result }
 {
-    let mut end = Pair {
-        old: pair.old,
-        new: pair.new,
+    let pair = Pair {
+        old: only.pair.old,
+        new: only.pair.new,
     };
     if displaced {
-        return end;
+        return pair;
     }
+    let mut end = Only {
+        pair,
+        bare: only.bare,
+    };
     'passing: while let Some(below) = below_bare(tree, &end) {
         end = below;
     }
-    end
+    let Only { pair, bare: _bare } = end;
+    pair
 }
 
 // A made fiber beside this current one, if it was made for that.
@@ -271,8 +322,8 @@ fn read_made(
     ensures same { IfOk result (λ l. l.same ≡ true → places_in 0 (list_of tree.now heads.now.new) ≡ places_in 0 (list_of tree.now heads.now.old)) }
 {
     match only_pair(tree, heads) {
-        Some(pair) => {
-            let alone = read_alone(alloc, tree, &pair, displaced, working)?;
+        Some(only) => {
+            let alone = read_alone(alloc, tree, &only, displaced, working)?;
             Ok(alone)
         }
         None => {
@@ -313,23 +364,24 @@ fn read_listed(
 fn read_alone(
     alloc: Global,
     tree: &FiberTree<Fiber>,
-    pair: &Pair,
+    only: &Only,
     displaced: bool,
     working: &NumberSet,
 ) -> Result<PrunedLists, AllocError>
-    requires pair { IsPair tree.now pair.now }
-    requires stands { StandsInPlace tree.now pair.now }
+    requires pair { IsPair tree.now only.now.pair }
+    requires stands { StandsInPlace tree.now only.now.pair }
+    requires bare { only.now.bare ≡ true → IsBare tree.now only.now.pair }
     requires alike { AllTakeAlike tree.now.current tree.now.draft }
-    ensures lists { IfOk result (λ l. PrunedInPlace displaced (forest (first_node (list_of tree.now (Some pair.now.old)) ∷ [])) (forest (first_node (list_of tree.now (Some pair.now.new)) ∷ [])) (forest l.old.items) (forest l.new.items)) }
-    ensures same { IfOk result (λ l. l.same ≡ true → AreSame tree.now pair.now) }
+    ensures lists { IfOk result (λ l. PrunedInPlace displaced (forest (first_node (list_of tree.now (Some only.now.pair.old)) ∷ [])) (forest (first_node (list_of tree.now (Some only.now.pair.new)) ∷ [])) (forest l.old.items) (forest l.new.items)) }
+    ensures same { IfOk result (λ l. l.same ≡ true → AreSame tree.now only.now.pair) }
 {
-    let end = end_of_chain(tree, pair, displaced);
+    let end = end_of_chain(tree, only, displaced);
     match read_pair(alloc, tree, &end, displaced, working)? {
         Some(nodes) => {
             let lists = one_each(alloc, nodes)?;
             Ok(lists)
         }
-        None => Ok(no_lists(alloc, end.new.same(pair.new))),
+        None => Ok(no_lists(alloc, end.new.same(only.pair.new))),
     }
 }
 

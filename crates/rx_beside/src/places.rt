@@ -1,5 +1,5 @@
 // The children of a made fiber beside those of its alternate, where each stands in place.
-ghost use Rattle.std.specs.Prelude.{◌≡◌, false, true, All, Some, IfSome, IfOk};
+ghost use Rattle.std.specs.Prelude.{◌≡◌, ℕ, false, true, All, Some, IfSome, IfOk, is_some};
 ghost use Rattle.rx_elem.specs.Elements.{is_present};
 ghost use Rattle.rx_elem.specs.Trees as trees;
 ghost use Rattle.rx_elem.specs.Trees.{element_of};
@@ -7,9 +7,9 @@ ghost use Rattle.rx_links.specs.Drafts.{Makes, old_of};
 ghost use Rattle.rx_links.specs.Readers.{IsIn};
 ghost use Rattle.rx_compare.specs.InPlace.{IsInPlace};
 ghost use Rattle.rx_read.specs.Lists.{list_of};
-ghost use Rattle.rx_read.specs.Places.{places_in, first_node};
+ghost use Rattle.rx_read.specs.Places.{mark_in, places_in, first_places, first_node};
 ghost use Rattle.rx_beside.specs.Alike.{AllTakeAlike};
-ghost use Rattle.rx_beside.specs.Pairs.{IsPair, IsPairIn, StandAt, IsOnly, Goes, AreInPlace};
+ghost use Rattle.rx_beside.specs.Pairs.{IsPair, IsPairIn, StandAt, Goes, AreInPlace};
 
 use crate::children::{fill, is_begun, is_last, next_node};
 use crate::taking::is_kept;
@@ -72,6 +72,33 @@ fn is_same_child(old: &Element, new: &Element) -> bool
     old.key() == new.key() && new.is_same_kind(old)
 }
 
+// Whether a made fiber and a current one each are the last of their lists.
+pub(crate) fn are_last(tree: &FiberTree<Fiber>, pair: &Pair) -> bool
+    requires old { IsIn tree.now pair.now.old }
+    requires new { IsIn tree.now pair.now.new }
+    ensures old { result ≡ true → (n : ℕ) → places_in n (list_of tree.now (Some pair.now.old)) ≡ first_places n (list_of tree.now (Some pair.now.old)) }
+    ensures new { result ≡ true → (n : ℕ) → places_in n (list_of tree.now (Some pair.now.new)) ≡ first_places n (list_of tree.now (Some pair.now.new)) }
+{
+    is_last(tree, pair.old) && is_last(tree, pair.new)
+}
+
+// Whether a fiber stands for the node at the first place.
+fn stands_first(fiber: &Fiber) -> bool
+    ensures place { result ≡ true → fiber.now.place ≡ 0 }
+    ensures begun { result ≡ true → is_some (mark_in fiber.now.stage) ≡ true }
+{
+    fiber.place() == 0 && is_begun(fiber.stage())
+}
+
+// Whether two fibers stand for the nodes at the first places of their lists, and the one is the other in place.
+pub(crate) fn stand_first(was: &Fiber, is: &Fiber) -> bool
+    ensures old { result ≡ true → (was.now.place ≡ 0) × (is_some (mark_in was.now.stage) ≡ true) }
+    ensures new { result ≡ true → (is.now.place ≡ 0) × (is_some (mark_in is.now.stage) ≡ true) }
+    ensures same { result ≡ true → IsInPlace was.now.element is.now.element }
+{
+    stands_first(was) && stands_first(is) && is_same_child(was.element(), is.element())
+}
+
 // Whether a made fiber is of the element that its alternate was of.
 fn is_same(tree: &FiberTree<Fiber>, pair: &Pair) -> bool
     requires { IsPair tree.now pair.now }
@@ -94,27 +121,6 @@ pub(crate) fn is_left(tree: &FiberTree<Fiber>, pair: &Pair, displaced: bool) -> 
     ensures present { result ≡ true → (o : trees.Node) → first_node (list_of tree.now (Some pair.now.old)) ≡ Some o → is_present (element_of o) ≡ true }
 {
     !displaced && is_kept(tree, pair)
-}
-
-// The only children of two lists, if the one is the other in place.
-pub(crate) fn only_pair(tree: &FiberTree<Fiber>, heads: &Heads) -> Option<Pair>
-    requires old { IfSome heads.now.old (IsIn tree.now) }
-    requires made { IfSome heads.now.new (Makes tree.now.draft) }
-    ensures { IfSome result (IsOnly tree.now heads.now) }
-{
-    let pair = Pair {
-        old: heads.old?,
-        new: heads.new?,
-    };
-    if !is_last(tree, pair.old) || !is_last(tree, pair.new) {
-        return None;
-    }
-    let place = common_place(tree, &pair)?;
-    if place == 0 && is_same(tree, &pair) {
-        Some(pair)
-    } else {
-        None
-    }
 }
 
 // Goes on with a child of a made fiber and one of its alternate, behind so many places, unless it is to be left out. Returns how

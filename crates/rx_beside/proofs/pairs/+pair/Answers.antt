@@ -73,8 +73,8 @@ read_alone-returns-in_ok-lists-in-Some-clause-lists t c =
     let end = c.end_of_chain-end.ensures in
     let l = c.in_ok-lists-in-Some.lists in
     let p = c.in-Some.nodes in
-    let old = first_node (list_of trees (Some c.args.pair.now.old)) in
-    let new = first_node (list_of trees (Some c.args.pair.now.new)) in
+    let old = first_node (list_of trees (Some c.args.only.now.pair.old)) in
+    let new = first_node (list_of trees (Some c.args.only.now.pair.new)) in
     let one = some-at _ (λ p. IsPruned trees c.args.displaced c.end_of_chain-end.result p.old p.new) p c.in_ok-nodes.ensures.pruned c.in-Some.is in
     subst (λ xs. PrunedInPlace c.args.displaced (forest (old ∷ [])) (forest (new ∷ [])) (forest xs) (forest l.new.items)) (sym c.in_ok-lists-in-Some.ensures.old)
     (subst (λ ys. PrunedInPlace c.args.displaced (forest (old ∷ [])) (forest (new ∷ [])) (forest (Some p.old ∷ [])) (forest ys)) (sym c.in_ok-lists-in-Some.ensures.new)
@@ -85,8 +85,8 @@ read_alone-returns-in-None-clause-lists t c =
     let trees = c.args.tree.now in
     let end = c.end_of_chain-end.ensures in
     let r = c.in_ok-nodes.ensures in
-    let old = first_node (list_of trees (Some c.args.pair.now.old)) in
-    let new = first_node (list_of trees (Some c.args.pair.now.new)) in
+    let old = first_node (list_of trees (Some c.args.only.now.pair.old)) in
+    let new = first_node (list_of trees (Some c.args.only.now.pair.new)) in
     subst (λ l. PrunedInPlace c.args.displaced (forest (old ∷ [])) (forest (new ∷ [])) (forest l) (forest c.no_lists.result.new.items)) (sym c.no_lists.ensures.old)
     (subst (λ l. PrunedInPlace c.args.displaced (forest (old ∷ [])) (forest (new ∷ [])) (forest []) (forest l)) (sym c.no_lists.ensures.new)
     (end.passes _ _ (alone_left trees c.args.displaced c.end_of_chain-end.result end.pair (r.still c.in-None.is) (r.same c.in-None.is) end.stands)))
@@ -185,14 +185,14 @@ read_lists-returns-else-displaced-clause-same t c = λ e. ap (λ d. places_in 0 
 
 pub read_made-returns-in_ok-alone-in-Some-clause-lists : goal.read_made-returns-in_ok-alone-in-Some-clause-lists
 read_made-returns-in_ok-alone-in-Some-clause-lists t c =
-    let only = c.in-Some.ensures in
+    let only = c.in-Some.ensures.only in
     let old = only.old_places in
     let new = only.new_places in
     rw (old, new) (in_place c.in_ok-alone-in-Some.ensures.lists)
 
 pub read_made-returns-in_ok-alone-in-Some-clause-same : goal.read_made-returns-in_ok-alone-in-Some-clause-same
 read_made-returns-in_ok-alone-in-Some-clause-same t c = λ e.
-    let only = c.in-Some.ensures in
+    let only = c.in-Some.ensures.only in
     only.new_places ∙ (ap (λ o. o ∷ []) (c.in_ok-alone-in-Some.ensures.same e) ∙ sym only.old_places)
 
 pub read_matched-going-init : goal.read_matched-going-init

@@ -31,7 +31,7 @@ abbrev pub decreases-read_listed : goal.decreases-read_listed
 decreases-read_listed l = 10 * size (list_of l.tree.now l.heads.now.new) + 6
 
 abbrev pub decreases-read_alone : goal.decreases-read_alone
-decreases-read_alone l = 10 * size (list_of l.tree.now (Some l.pair.now.new)) + 5
+decreases-read_alone l = 10 * size (list_of l.tree.now (Some l.only.now.pair.new)) + 5
 
 abbrev pub decreases-read_in_place : goal.decreases-read_in_place
 decreases-read_in_place l = 10 * size (list_of l.tree.now l.heads.now.new) + 5
