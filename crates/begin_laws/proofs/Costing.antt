@@ -6,7 +6,7 @@ use Rattle.rx_ast.specs.Syntax.{Component}
 use Rattle.rx_rules.specs.Names.{component_at}
 use Rattle.rx_ctx.specs.Contexts.{Stack, moved_in, moves_by}
 use Rattle.rx_susp.specs.declared.boundary.BoundaryState.TheVariants.{Shown, Hidden}
-use Rattle.rx_elem.specs.Elements.{Element, Elements, Key, kind_of, same_element, same_kind, stands_for_children}
+use Rattle.rx_elem.specs.Elements.{Element, Elements, Key, kind_of, same_element, same_kind}
 use Rattle.rx_elem.specs.Elements as elements
 use Rattle.rx_elem.specs.Trees.{Node, node, element_of, mark_of, instance_in, is_hidden, of_instance, of_host, of_boundary, of_catcher, plain, old_caught}
 use Rattle.rx_hooks.specs.declared.hook.Hook.{Hook}

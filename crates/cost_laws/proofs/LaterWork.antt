@@ -5,7 +5,7 @@ use Rattle.std.specs.Option.{option_map_or}
 use Rattle.std.proofs.Common.{ap, sym, ◌∙◌}
 use Rattle.rx_susp.specs.declared.boundary.BoundaryState.{BoundaryState}
 use Rattle.rx_susp.specs.Boundary.{awaits_of, hides}
-use Rattle.rx_elem.specs.Elements.{Element, stands_for_children}
+use Rattle.rx_elem.specs.Elements.{Element}
 use Rattle.rx_elem.specs.Elements as elements
 use Rattle.rx_elem.specs.Trees.{Forest, Instance, Mark, Node, boundary_in, child, children_of, instance_in, mark_of, node, none, of_boundary, of_catcher, of_host, of_instance, plain, vacant}
 use Rattle.rx_queue.specs.Journal.{Journal, Posted, Resolution, Target, hook, is_included, same_target, updates_of}
