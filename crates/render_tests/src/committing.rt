@@ -91,7 +91,8 @@ fn a_tree_is_committed(rt: HostRuntime) -> Result<(), Fail> {
     assert!(rt; deferral(alloc, &beside, lanes)?.is_none());
     let pruned = beside.pruned_old.as_ref();
     let changes = changes_between(alloc, pruned, &beside.pruned_new)?;
-    let prepared = shown.prepare(alloc, &beside, changes, &all)?;
+    let left = hosts(alloc, Some(&beside.pruned_new))?;
+    let prepared = shown.prepare(alloc, &beside, changes, &left, &all)?;
     let mut log = Report::new(alloc, false, true);
     prepared.write(&mut log, 1, lanes, 1, 1)?;
     shown.commit(prepared);

@@ -56,52 +56,51 @@ impl Model for Prepared {
     ghost view = { λ p. record { ops = p.ops.items; caught = p.caught.items; layout = p.layout.destroyed.items ++ p.layout.created.items; passive = passive_seen p.passive } };
 }
 
-// The operations from the hosts of one tree to those of another, if hosts of these numbers are placed among those that are told.
+// The operations from the hosts of a tree to those of another, if hosts of these numbers are placed among those that are told.
 fn ops_from(
     alloc: Global,
     old: Option<&node::Node>,
-    new: &node::Node,
+    after: &[Host],
     told: &[Host],
     placed: &[u64],
 ) -> Result<Vec<HostOp>, AllocError>
-    ensures { IfOk result (λ ops. ops.items ≡ ops_among (hosts (option_copied old.entry)) (hosts (Some new.now)) told.now placed.now) }
+    ensures { IfOk result (λ ops. ops.items ≡ ops_among (hosts (option_copied old.entry)) after.now told.now placed.now) }
 {
     let before = listed(alloc, old)?;
-    let after = listed(alloc, Some(new))?;
-    among_all(alloc, &before, &after, told, placed)
+    among_all(alloc, &before, after, told, placed)
 }
 
-// The operations from the hosts of one tree to those of another, if none is placed. Most often each host stands where it stood.
+// The operations from the hosts of a tree to those of another, if none is placed. Most often each host stands where it stood.
 fn changes_from(
     alloc: Global,
     old: Option<&node::Node>,
-    new: &node::Node,
+    after: &[Host],
 ) -> Result<Vec<HostOp>, AllocError>
-    ensures { IfOk result (λ ops. AreDistinct (hosts (option_copied old.entry)) → ops.items ≡ ops_between (hosts (option_copied old.entry)) (hosts (Some new.now)) []) }
+    ensures { IfOk result (λ ops. AreDistinct (hosts (option_copied old.entry)) → ops.items ≡ ops_between (hosts (option_copied old.entry)) after.now []) }
 {
     let before = listed(alloc, old)?;
-    let after = listed(alloc, Some(new))?;
-    if have_same_numbers(&before, &after) {
-        return ops_in_place(alloc, &before, &after);
+    if have_same_numbers(&before, after) {
+        return ops_in_place(alloc, &before, after);
     }
-    between(alloc, &before, &after, &[])
+    between(alloc, &before, after, &[])
 }
 
-// The operations of a commit, between the trees without what stayed. A host that is placed goes before its next sibling, and that
-// one may have stayed: only where such ones go is told by other hosts of the new tree.
+// The operations of a commit, between the hosts of the trees without what stayed. A host that is placed goes before its next
+// sibling, and that one may have stayed: only where such ones go is told by other hosts of the new tree.
 fn ops_beside(
     alloc: Global,
     beside: &Beside,
+    after: &[Host],
     placed: &[u64],
     told: &[Host],
 ) -> Result<Vec<HostOp>, AllocError>
-    requires { placed.now ≡ placed_hosts (changes (compare_trees beside.now.pruned_old beside.now.pruned_new)) }
+    requires after { after.now ≡ hosts (Some beside.now.pruned_new) }
+    requires placed { placed.now ≡ placed_hosts (changes (compare_trees beside.now.pruned_old beside.now.pruned_new)) }
     ensures { IfOk result (λ ops. (old : Option Node) (new : Node) → IsBeside old new beside.now → IfHasNoNull old → AreOfCommit old new → TellsWhere placed.now told.now new → ops.items ≡ host_ops old new) }
 {
     pruned_trees_compare_alike();
     hosts_that_stay_need_nothing();
     let before = beside.pruned_old.as_ref();
-    let after = &beside.pruned_new;
     if placed.is_empty() {
         changes_from(alloc, before, after)
     } else {
@@ -115,9 +114,11 @@ impl Prepared {
         alloc: Global,
         beside: &Beside,
         changes: Changes,
+        after: &[Host],
         told: &[Host],
     ) -> Result<Prepared, AllocError>
-        requires { changes_seen changes ≡ found_in (compare_trees beside.now.pruned_old beside.now.pruned_new) }
+        requires after { after.now ≡ hosts (Some beside.now.pruned_new) }
+        requires changes { changes_seen changes ≡ found_in (compare_trees beside.now.pruned_old beside.now.pruned_new) }
         ensures { IfOk result (λ x. (old : Option Node) (new : Node) → IsBeside (trimmed_if old) (trimmed new) beside.now → IfHasNoNull old → IsCommit old new → TellsWhere changes.placed.items told.now new → Prepares old new x) }
     {
         pruned_trees_compare_alike();
@@ -129,7 +130,7 @@ impl Prepared {
             hidden: _hidden,
         } = changes;
         Ok(Prepared {
-            ops: ops_beside(alloc, beside, &placed, told)?,
+            ops: ops_beside(alloc, beside, after, &placed, told)?,
             caught,
             layout,
             passive,

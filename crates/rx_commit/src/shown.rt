@@ -66,7 +66,8 @@ impl Shown {
     }
 
     /// Prepares the commit of a finished tree, by what it changes beside the committed one: it takes all the memory that the commit
-    /// needs, and shows nothing of it. `told` are hosts of the finished tree that tell where the placed ones go.
+    /// needs, and shows nothing of it. `after` are the hosts that are left of the finished tree without what stayed, and `told` those
+    /// of the whole one that tell where the placed ones go.
     ///
     /// # Errors
     ///
@@ -76,16 +77,18 @@ impl Shown {
         alloc: Global,
         beside: &Beside,
         changes: Changes,
+        after: &[Host],
         told: &[Host],
     ) -> Result<Prepared, AllocError>
-        requires { changes_seen changes ≡ found_in (compare_trees beside.now.pruned_old beside.now.pruned_new) }
+        requires after { after.now ≡ hosts (Some beside.now.pruned_new) }
+        requires changes { changes_seen changes ≡ found_in (compare_trees beside.now.pruned_old beside.now.pruned_new) }
         ensures prepares { IfOk result (λ x. (old : Option Node) (new : Node) → IsBeside (trimmed_if old) (trimmed new) beside.now → IfHasNoNull old → IsCommit old new → TellsWhere changes.placed.items told.now new → Prepares old new x) }
         ensures ready { IfOk result (λ x. (old : Option Node) (passive : effects.Passive) (new : Node) → Shows old passive self.old → IsCommit old new → TextsAreLeaves new → Prepares old new x → CanCommit self.new x) }
         ensures hosts { forest_kept self.new.hosts ≡ forest_kept self.old.hosts }
         ensures passive { self.new.passive ≡ self.old.passive }
         ensures same { (tree : Option Node) (passive : effects.Passive) → Shows tree passive self.old → Shows tree passive self.new }
     {
-        let prepared = Prepared::new(alloc, beside, changes, told)?;
+        let prepared = Prepared::new(alloc, beside, changes, after, told)?;
         self.hosts.reserve(prepared.ops.len() as u64)?;
         Ok(prepared)
     }

@@ -10,6 +10,7 @@ ghost use Rattle.rx_elem.specs.Compare.{changes, compare_trees};
 ghost use Rattle.rx_effect.specs.EffectLog as effects;
 ghost use Rattle.rx_effect.specs.EffectLog.{passive_of};
 ghost use Rattle.rx_forest.specs.HostOps.{placed_hosts};
+ghost use Rattle.rx_forest.specs.Hosts as listed;
 ghost use Rattle.host_laws.specs.Commits.{IsSound};
 ghost use Rattle.rx_lane.specs.Lanes.{has, lanes_where};
 ghost use Rattle.rx_queue.specs.Journal.{resolved_since, version_of};
@@ -30,6 +31,7 @@ ghost use Rattle.rx_model.specs.Laws.{IsBounded, IsReached};
 ghost use Rattle.rx_links.specs.Drafts.{grafted};
 ghost use Rattle.rx_fiber.specs.Reading.{IsTreeOf};
 ghost use Rattle.rx_pruned.specs.Besides.{IsBeside};
+ghost use Rattle.rx_pruned.specs.declared.beside.Beside as besides;
 ghost use Rattle.end_laws.specs.Trimmed.{trimmed, trimmed_if};
 ghost use Rattle.rx_commit.specs.Shown.{Prepares, Shows, TellsWhere, outcome_as};
 ghost use Rattle.rx_commit.specs.Written.{lines_of};
@@ -46,7 +48,7 @@ use crate::root::Root;
 use rx_base::{Awaits, Cut, Steps};
 use rx_changes::changes_between;
 use rx_commit::{Prepared, Shown, deferral, parents_of_placed};
-use rx_host_ops::Host;
+use rx_host_ops::{Host, hosts};
 use rx_lane::{Lane, Lanes};
 use rx_loop::{Driven, drive};
 use rx_pruned::Beside;
@@ -260,16 +262,17 @@ impl Root {
         self.renderer.finished()
     }
 
-    // Hosts of the finished tree that tell where the placed ones go: those with the same parents.
-    fn hosts_around(&self, beside: &Beside, placed: &[u64]) -> Result<Vec<Host>, AllocError>
-        requires { placed.now ≡ placed_hosts (changes (compare_trees beside.now.pruned_old beside.now.pruned_new)) }
-        ensures { IfOk result (λ told. (old : Option trees.Node) (new : trees.Node) → IsBeside (trimmed_if old) (trimmed new) beside.now → IsSound new
+    // Hosts of the finished tree that tell where the placed ones go: those with the same parents. These are among the hosts that are
+    // left without what stayed.
+    fn hosts_around(&self, left: &[Host], placed: &[u64]) -> Result<Vec<Host>, AllocError>
+        ensures { IfOk result (λ told. (old : Option trees.Node) (new : trees.Node) (beside : besides.Beside) → left.now ≡ listed.hosts (Some beside.pruned_new)
+            → placed.now ≡ placed_hosts (changes (compare_trees beside.pruned_old beside.pruned_new)) → IsBeside (trimmed_if old) (trimmed new) beside → IsSound new
             → IsTreeOf (Some new) (grafted self.entry.now.rendering.trees.draft) → TellsWhere placed.now told.items new) }
     {
         if placed.is_empty() {
             return Ok(Vec::new(self.alloc));
         }
-        let parents = parents_of_placed(self.alloc, beside, placed)?;
+        let parents = parents_of_placed(self.alloc, left, placed)?;
         self.renderer.hosts_below(&parents)
     }
 
@@ -281,8 +284,10 @@ impl Root {
     {
         let pruned = beside.pruned_old.as_ref();
         let changes = changes_between(self.alloc, pruned, &beside.pruned_new)?;
-        let told = self.hosts_around(beside, &changes.placed)?;
-        self.shown.prepare(self.alloc, beside, changes, &told)
+        let left = hosts(self.alloc, Some(&beside.pruned_new))?;
+        let told = self.hosts_around(&left, &changes.placed)?;
+        self.shown
+            .prepare(self.alloc, beside, changes, &left, &told)
     }
 
     // Writes what a prepared commit does, and settles the hooks: an `Err` takes back what was written.

@@ -8,8 +8,8 @@ use Rattle.rx_commit.proofs.prepared.Prepared.new.Goals as goal
 abbrev passive_in : Found → Passive
 passive_in f = record { destroyed = f.passive.destroyed; created = f.passive.created }
 
-pub ops_beside-requires : goal.ops_beside-requires
-ops_beside-requires c = c.deref.ensures.value ∙ ap (λ (f : Found). f.placed) c.requires
+pub ops_beside-requires-clause-placed : goal.ops_beside-requires-clause-placed
+ops_beside-requires-clause-placed c = c.deref.ensures.value ∙ ap (λ (f : Found). f.placed) c.requires.changes
 
 pub returns : goal.returns
 returns c = λ old new beside present commits tells.
@@ -18,7 +18,7 @@ returns c = λ old new beside present commits tells.
       ops_are =
           ops-of old new b beside present c.deref.result.now c.args.told.now c.in_ok-ops_beside.field-0.items c.in_ok-ops_beside.ensures commits
           (subst (λ placed. TellsWhere placed c.args.told.now new) (sym c.deref.ensures.value) tells);
-      caught_is = ap (λ (x : Found). x.caught) c.requires ∙ caught-of old new b beside present;
-      layout_is = ap (λ (x : Found). x.layout.destroyed ++ x.layout.created) c.requires ∙ layout-of old new b beside present;
-      passive_is = ap passive_in c.requires ∙ passive-of old new b beside present;
+      caught_is = ap (λ (x : Found). x.caught) c.requires.changes ∙ caught-of old new b beside present;
+      layout_is = ap (λ (x : Found). x.layout.destroyed ++ x.layout.created) c.requires.changes ∙ layout-of old new b beside present;
+      passive_is = ap passive_in c.requires.changes ∙ passive-of old new b beside present;
     }

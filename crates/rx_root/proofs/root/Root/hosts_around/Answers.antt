@@ -7,13 +7,13 @@ use Rattle.rx_root.specs.Rooted.{Rooted}
 use Rattle.rx_root.proofs.root.Root.hosts_around.Goals as goal
 
 pub returns-then-is_empty : goal.returns-then-is_empty
-returns-then-is_empty c = λ old new beside sound there.
+returns-then-is_empty c = λ old new beside left_is placed_is is sound there.
     none-told c.args.placed.now _ new (eqb-true (length c.args.placed.now) 0 (sym c.is_empty.ensures ∙ c.if-is_empty.true)) c.new.ensures.items
 
 pub returns : goal.returns
 returns c =
     IfOk-weaker c.hosts_below.result _ _
-    (λ told tells old new beside sound there.
+    (λ told tells old new beside left_is placed_is is sound there.
     tells new (subst (λ (v : Rooted). IsTreeOf (Some new) (grafted v.rendering.trees.draft)) (sym c.self.view_is) there) sound c.args.placed.now
-    (c.in_ok-parents.ensures old new beside sound))
+    (c.in_ok-parents.ensures old new beside left_is placed_is is sound))
     c.hosts_below.ensures

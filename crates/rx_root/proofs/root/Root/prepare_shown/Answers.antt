@@ -1,10 +1,10 @@
 use Rattle.std.specs.Prelude.{ℕ, List, Option, Result, Ok, Err, IfOk, Some}
-use Rattle.std.proofs.Common.{sym, ap, ◌∙◌, subst}
+use Rattle.std.proofs.Common.{◌≡◌, sym, ap, ◌∙◌, subst}
 use Rattle.rx_changes.specs.Found.{Found}
 use Rattle.rx_elem.specs.Compare.{changes, compare_trees}
 use Rattle.rx_elem.specs.Trees.{Node}
 use Rattle.rx_forest.specs.HostOps.{placed_hosts}
-use Rattle.rx_forest.specs.Hosts.{Host}
+use Rattle.rx_forest.specs.Hosts.{Host, hosts}
 use Rattle.rx_links.specs.Drafts.{grafted}
 use Rattle.rx_fiber.specs.Reading.{IsTreeOf}
 use Rattle.rx_pruned.specs.Besides.{IsBeside}
@@ -21,11 +21,16 @@ if_ok_both (Err e) f h k = tt
 
 pub returns-clause-ready : goal.returns-clause-ready
 returns-clause-ready c =
-    let tells : (old : Option Node) (new : Node) → IsBeside (trimmed_if old) (trimmed new) c.args.beside.now → IsSound new
-    → IsTreeOf (Some new) (grafted c.args.self.now.rendering.trees.draft) → TellsWhere c.in_ok-changes.changes.placed.items c.deref-2.result.now new =
+    let pruned = c.args.beside.now in
+    let left_is : c.deref.result.now ≡ hosts (Some pruned.pruned_new) = c.deref.ensures.value ∙ c.in_ok-left.ensures in
+    let placed_is =
+    c.deref-2.ensures.value
+    ∙ (ap (λ (f : Found). f.placed) c.in_ok-changes.ensures ∙ ap (λ (old : Option Node). placed_hosts (changes (compare_trees old pruned.pruned_new))) c.as_ref-pruned.ensures.value) in
+    let tells : (old : Option Node) (new : Node) → IsBeside (trimmed_if old) (trimmed new) pruned → IsSound new
+    → IsTreeOf (Some new) (grafted c.args.self.now.rendering.trees.draft) → TellsWhere c.in_ok-changes.changes.placed.items c.deref-4.result.now new =
     λ old new beside sound there.
-    subst (λ (placed : List ℕ). TellsWhere placed c.deref-2.result.now new) c.deref.ensures.value
-    (subst (λ (told : List Host). TellsWhere c.deref.result.now told new) (sym c.deref-2.ensures.value) (c.in_ok-told.ensures old new beside sound there)) in
+    subst (λ (placed : List ℕ). TellsWhere placed c.deref-4.result.now new) c.deref-2.ensures.value
+    (subst (λ (told : List Host). TellsWhere c.deref-2.result.now told new) (sym c.deref-4.ensures.value) (c.in_ok-told.ensures old new pruned left_is placed_is beside sound there)) in
     if_ok_both c.prepare.result
     (λ x prepares ready old passive new h.
     let f = subst (λ (v : Rooted). CanFollow old passive new c.args.beside.now v) (sym c.self.view_is) h in
@@ -37,12 +42,6 @@ returns-clause-ready c =
       commits = f.commits;
     })
     c.prepare.ensures.prepares c.prepare.ensures.ready
-
-pub hosts_around-requires : goal.hosts_around-requires
-hosts_around-requires c =
-    c.deref.ensures.value
-    ∙ ap (λ (f : Found). f.placed) c.in_ok-changes.ensures
-    ∙ ap (λ (old : Option Node). placed_hosts (changes (compare_trees old c.args.beside.now.pruned_new))) c.as_ref-pruned.ensures.value
 
 pub returns-clause-same : goal.returns-clause-same
 returns-clause-same c tree passive h = c.prepare.ensures.same tree passive (subst (λ (v : Rooted). Shows tree passive v.shown) (sym c.self.view_is) h)
