@@ -36,11 +36,7 @@ fn stand_as_before(before: &[u64], instances: &[Mounted]) -> bool
 }
 
 // Those of some numbers that are none of the known ones.
-fn numbers_beside(
-    alloc: Global,
-    before: &[u64],
-    known: &NumberSet,
-) -> Result<Vec<u64>, AllocError>
+fn numbers_beside(alloc: Global, before: &[u64], known: &NumberSet) -> Result<Vec<u64>, AllocError>
     ensures { IfOk result (λ gone. (n : ℕ) → list_any (nat_eq n) gone.items ≡ (list_any (nat_eq n) before.now && not (holds known.now n))) }
 {
     let mut gone = Vec::new(alloc);
