@@ -1,19 +1,21 @@
 -- A made fiber beside the current one that it was made for.
-use Rattle.std.proofs.Common.{◌≡◌, ◌⊎◌, inl, inr, ℕ, ◌<◌, ◌≤◌, true, false, refl, sym, ap, ◌∙◌, subst, arith, is_some, Option, Some, None, IfSome}
+use Rattle.std.proofs.Common.{◌≡◌, ◌⊎◌, inl, inr, ℕ, ◌<◌, ◌≤◌, true, false, refl, sym, ap, ◌∙◌, subst, arith, eqb, cond, Bool, is_some, Option, Some, None, IfSome}
 use Rattle.rx_elem.specs.Trees.{Mark, Node, node, forest, shows_fallback}
 use Rattle.rx_elem.specs.Trees as trees
 use Rattle.rx_lists.specs.Shapes.{Shape, none, fiber, first, size, Holds}
-use Rattle.rx_links.specs.Drafts.{Draft, taken, made, Trees, entry, Makes, Fits, Follows, HasTop, IsOldKids, kids_of, kids_under, old_of, old_kids, grafted}
+use Rattle.rx_links.specs.Drafts.{Draft, taken, made, Trees, clone_of, entry, or_else, Makes, Fits, Follows, HasTop, IsOldKids, kids_of, kids_under, old_of, old_kids, grafted}
 use Rattle.rx_links.specs.Places.{Around, top, below, after, placed}
-use Rattle.rx_links.specs.Readers.{rest_of, value_of, IsLinked, made_kids_of, made_rest_of, made_value_of}
+use Rattle.rx_links.specs.Readers.{rest_of, value_of, IsIn, IsLinked, made_kids_of, made_rest_of, made_value_of}
 use Rattle.rx_links.proofs.Placed.{is-at}
 use Rattle.rx_fiber.specs.Fibers.{Fiber, begun}
 use Rattle.rx_fiber.proofs.OldLists.{IsListIn, rest_listed, kids_are}
+use Rattle.rx_fiber.proofs.OldReads.{kids_held}
 use Rattle.rx_lists.proofs.Frames.{some-at}
 use Rattle.rx_read.specs.Lists.{list_of}
 use Rattle.rx_read.specs.Numbering.{made_entry}
 use Rattle.rx_read.specs.Places.{mark_in, places_in, first_node}
-use Rattle.rx_read.proofs.Links.{Stands, stands, list_of_current, list_of_first, list_of_made, list_of_entry, old_listed}
+use Rattle.rx_read.proofs.Links.{Stands, stands, list_of_current, list_of_first, list_of_made, list_of_entry, old_listed, taken_held}
+use Rattle.rx_read.proofs.Relisted.{child_in}
 
 -- Where a made fiber stands
 
@@ -158,3 +160,41 @@ module _ (t : Trees Fiber) (p : ℕ) (b : Beside t p) where
       let q : size (list_of t o) ≡ size (list_of t (made_entry b.at.kids)) = ap (λ o. size (list_of t o)) (e ∙ ap made_entry b.kids) in
       let all = ap size b.list in
       omega arith
+
+-- A child whose alternate is current
+
+either : {P : Type 0} (a b : Option ℕ) (i : ℕ) → (a ≡ Some i → P) → (b ≡ Some i → P) → or_else a b ≡ Some i → P
+either None b i f g e = g e
+either (Some x) b i f g e = f e
+
+clone_makes : (w : Draft Fiber) (j i : ℕ) → clone_of w j ≡ Some i → Makes w i
+clone_makes (taken s) j i e = absurd (let f : ⊥ = cc in f)
+clone_makes (made id v None ks rs) j i e = either (clone_of ks j) (clone_of rs j) i (λ q. inr (inl (clone_makes ks j i q))) (λ q. inr (inr (clone_makes rs j i q))) e
+clone_makes (made id v (Some o) ks rs) j i e = go (eqb o j) e (clone_makes ks j i) (clone_makes rs j i)
+  where
+    go : (b : Bool) → cond b (Some id) (or_else (clone_of ks j) (clone_of rs j)) ≡ Some i → (clone_of ks j ≡ Some i → Makes ks i) → (clone_of rs j ≡ Some i → Makes rs i)
+        → Makes (made id v (Some o) ks rs) i
+    go true q f g = let same : id ≡ i = cc in inl (sym same)
+    go false q f g = either (clone_of ks j) (clone_of rs j) i (λ q. inr (inl (f q))) (λ q. inr (inr (g q))) q
+
+-- it was made: that of a current one is none that is current
+pub is_made : (t : Trees Fiber) → Fits t → (i j : ℕ) → IsIn t i → Holds t.current j → (Holds t.current i → clone_of t.draft i ≡ Some j) → Makes t.draft i
+is_made t fits i j (inr m) held f = m
+is_made t fits i j (inl h) held f = absurd (fits.apart j held (clone_makes t.draft i j (f h)))
+
+-- a first child that is made is the first of those that are made
+pub made_first : (t : Trees Fiber) → Fits t → IsLinked t.current → (p : ℕ) (b : Beside t p) (i : ℕ) → Some i ≡ entry (made_kids_of t.draft p) → Makes t.draft i
+    → Some i ≡ made_entry (made_kids_of t.draft p)
+made_first t fits linked p b i e m = by_kids b.at.kids b.at.here (e ∙ ap entry b.kids) ∙ ap made_entry (sym b.kids)
+  where
+    by_kids : (d : Draft Fiber) → t.draft ≡ placed b.at.around (made p b.at.value b.at.old d b.at.rest) → Some i ≡ entry d → Some i ≡ made_entry d
+    by_kids (taken s) here q =
+        absurd (fits.apart i (some-at (first s) (Holds t.current) i (taken_held t fits linked (below p b.at.value b.at.old b.at.rest b.at.around) s here) (sym q)) m)
+    by_kids (made j v o ks rs) here q = q
+
+-- the first children of a made fiber and of its alternate, if the one's alternate is the other: the one is made, and the other current
+pub below_made : (t : Trees Fiber) → Fits t → IsLinked t.current → (p : ℕ) → Makes t.draft p → (o : ℕ) → old_of t.draft p ≡ Some o → (i j : ℕ)
+    → Some j ≡ first (kids_of t.current o) → Some i ≡ entry (made_kids_of t.draft p) → (Holds t.current i → clone_of t.draft i ≡ Some j) → Holds t.current j × Makes t.draft i
+below_made t fits linked p m o for i j old new current =
+    let held = some-at (first (kids_of t.current o)) (Holds t.current) j (kids_held t.current linked o (old_held t fits linked p m o for)) (sym old) in
+    (held, is_made t fits i j (child_in t fits linked p m i new) held current)

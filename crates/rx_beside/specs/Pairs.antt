@@ -38,6 +38,13 @@ pub record StandAt (t : Trees Fiber) (c : Pair) (place : ℕ) : Type 0 where
   pub old : (n : ℕ) → first_places n (list_of t (Some c.old)) ≡ filled (place - n) None ++ first_node (list_of t (Some c.old)) ∷ []
   pub new : (n : ℕ) → first_places n (list_of t (Some c.new)) ≡ filled (place - n) None ++ first_node (list_of t (Some c.new)) ∷ []
 
+-- the fibers of a pair are the only ones of their lists from them on, and the node of the one is that of the other in place
+pub record IsAlone (t : Trees Fiber) (c : Pair) : Type 0 where
+  pub pair : IsPair t c
+  pub stands : StandsInPlace t c
+  pub old_places : places_in 0 (list_of t (Some c.old)) ≡ first_node (list_of t (Some c.old)) ∷ []
+  pub new_places : places_in 0 (list_of t (Some c.new)) ≡ first_node (list_of t (Some c.new)) ∷ []
+
 -- two lists have one child each, and the one is the other in place
 pub record IsOnly (t : Trees Fiber) (h : Heads) (c : Pair) : Type 0 where
   pub pair : IsPair t c

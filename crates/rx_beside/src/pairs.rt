@@ -3,14 +3,14 @@ ghost use Rattle.std.specs.Prelude.{◌≡◌, true, false, ◌||◌, ◌∷◌,
 ghost use Rattle.rx_elem.specs.Trees.{forest, host_number, shows_fallback};
 ghost use Rattle.rx_node.specs.MarkView.{mark_seen};
 ghost use Rattle.rx_lists.specs.Shapes.{size};
-ghost use Rattle.rx_links.specs.Drafts.{Makes, grafted, old_kids};
+ghost use Rattle.rx_links.specs.Drafts.{Makes, grafted, old_kids, old_of};
 ghost use Rattle.rx_links.specs.Readers.{IsIn, made_kids_of};
 ghost use Rattle.rx_read.specs.Lists.{list_of};
 ghost use Rattle.rx_read.specs.Places.{places_in, first_node};
 ghost use Rattle.rx_pruned.specs.Pruned.{GoesOn, StaysBare, displaced_below, PrunedInPlace};
 ghost use Rattle.rx_beside.specs.Alike.{AllTakeAlike};
 ghost use Rattle.rx_beside.specs.Children.{IsNode};
-ghost use Rattle.rx_beside.specs.Pairs.{AreBare, AreSame, IsBare, IsOnly, IsPair, StandsInPlace, PassesTo, IsPruned, AddsPruned};
+ghost use Rattle.rx_beside.specs.Pairs.{AreBare, AreSame, IsAlone, IsBare, IsOnly, IsPair, StandsInPlace, PassesTo, IsPruned, AddsPruned};
 ghost use Rattle.rx_beside.specs.Slots.{IsSlot, AreLists};
 
 use crate::children::fibers_of;
@@ -19,7 +19,9 @@ use crate::lists::{
     over_same, read_wholes, replace, vacant_places, with_gone,
 };
 use crate::marks::came_out_same;
-use crate::places::{Heads, Pair, are_last, is_left, is_made_for, pairs_in_place, stand_first};
+use crate::places::{
+    Heads, Pair, are_last, is_alternate, is_left, is_made_for, pairs_in_place, stand_first,
+};
 use crate::taking::takes_over;
 use rx_fiber::{Fiber, Stage};
 use rx_links::{FiberId, FiberTree};
@@ -112,22 +114,17 @@ fn are_bare(was: &Fiber, is: &Fiber) -> bool
     false
 }
 
-// The only children of two lists, if the one is the other in place. Each fiber is looked at once.
-fn only_pair(tree: &FiberTree<Fiber>, heads: &Heads) -> Option<Only>
-    requires old { IfSome heads.now.old (IsIn tree.now) }
-    requires made { IfSome heads.now.new (Makes tree.now.draft) }
-    ensures only { IfSome result (λ o. IsOnly tree.now heads.now o.pair) }
-    ensures bare { IfSome result (λ o. o.bare ≡ true → IsBare tree.now o.pair) }
+// Whether a made fiber and its alternate are only children, and the one is the other in place; and if so, whether they are bare. The
+// value of each is read once.
+fn stand_alone(tree: &FiberTree<Fiber>, pair: &Pair) -> Option<bool>
+    requires old { IsIn tree.now pair.now.old }
+    requires made { Makes tree.now.draft pair.now.new }
+    requires is_for { old_of tree.now.draft pair.now.new ≡ Some pair.now.old }
+    ensures alone { IfSome result (λ b. IsAlone tree.now pair.now) }
+    ensures bare { IfSome result (λ b. b ≡ true → IsBare tree.now pair.now) }
 {
     tree.facts();
-    let pair = Pair {
-        old: heads.old?,
-        new: heads.new?,
-    };
-    if !is_made_for(tree, &pair) {
-        return None;
-    }
-    if !are_last(tree, &pair) {
+    if !are_last(tree, pair) {
         return None;
     }
     let was = tree.value(pair.old);
@@ -135,14 +132,28 @@ fn only_pair(tree: &FiberTree<Fiber>, heads: &Heads) -> Option<Only>
     if !stand_first(was, is) {
         return None;
     }
-    Some(Only {
-        bare: are_bare(was, is),
-        pair,
-    })
+    Some(are_bare(was, is))
+}
+
+// The only children of two lists, if the one is the other in place.
+fn only_pair(tree: &FiberTree<Fiber>, heads: &Heads) -> Option<Only>
+    requires old { IfSome heads.now.old (IsIn tree.now) }
+    requires made { IfSome heads.now.new (Makes tree.now.draft) }
+    ensures only { IfSome result (λ o. IsOnly tree.now heads.now o.pair) }
+    ensures bare { IfSome result (λ o. o.bare ≡ true → IsBare tree.now o.pair) }
+{
+    let old = heads.old?;
+    let new = heads.new?;
+    let pair = Pair { old, new };
+    if !is_made_for(tree, &pair) {
+        return None;
+    }
+    let bare = stand_alone(tree, &pair)?;
+    Some(Only { pair, bare })
 }
 
 // The only child of an instance that stays and has no effects, and that of its alternate, if the one is the other in place. A
-// commit has nothing to do for the instance itself.
+// commit has nothing to do for the instance itself. A first child whose alternate is the old first child was made, not taken over.
 fn below_bare(tree: &FiberTree<Fiber>, only: &Only) -> Option<Only>
     requires pair { IsPair tree.now only.now.pair }
     requires stands { StandsInPlace tree.now only.now.pair }
@@ -155,11 +166,14 @@ fn below_bare(tree: &FiberTree<Fiber>, only: &Only) -> Option<Only>
         return None;
     }
     tree.facts();
-    let heads = Heads {
-        old: tree.first_child(only.pair.old),
-        new: made_child(tree, only.pair.new),
-    };
-    only_pair(tree, &heads)
+    let old = tree.first_child(only.pair.old)?;
+    let new = tree.first_child(only.pair.new)?;
+    let pair = Pair { old, new };
+    if !is_alternate(tree, &pair) {
+        return None;
+    }
+    let bare = stand_alone(tree, &pair)?;
+    Some(Only { pair, bare })
 }
 
 // Where a chain of such instances ends that begins with an only child, unless something from it up to its host is new or moved.

@@ -3,7 +3,8 @@ ghost use Rattle.std.specs.Prelude.{◌≡◌, ℕ, false, true, All, Some, IfSo
 ghost use Rattle.rx_elem.specs.Elements.{is_present};
 ghost use Rattle.rx_elem.specs.Trees as trees;
 ghost use Rattle.rx_elem.specs.Trees.{element_of};
-ghost use Rattle.rx_links.specs.Drafts.{Makes, old_of};
+ghost use Rattle.rx_lists.specs.Shapes.{Holds};
+ghost use Rattle.rx_links.specs.Drafts.{Makes, clone_of, old_of};
 ghost use Rattle.rx_links.specs.Readers.{IsIn};
 ghost use Rattle.rx_compare.specs.InPlace.{IsInPlace};
 ghost use Rattle.rx_read.specs.Lists.{list_of};
@@ -32,15 +33,24 @@ pub(crate) struct Heads {
     pub new: Option<FiberId>,
 }
 
-// Whether a made fiber was made for this current one.
-pub(crate) fn is_made_for(tree: &FiberTree<Fiber>, pair: &Pair) -> bool
-    requires { Makes tree.now.draft pair.now.new }
-    ensures { result ≡ true → old_of tree.now.draft pair.now.new ≡ Some pair.now.old }
+// Whether the alternate of a fiber is this one.
+pub(crate) fn is_alternate(tree: &FiberTree<Fiber>, pair: &Pair) -> bool
+    requires { IsIn tree.now pair.now.new }
+    ensures current { result ≡ true → Holds tree.now.current pair.now.new → clone_of tree.now.draft pair.now.new ≡ Some pair.now.old }
+    ensures made { result ≡ true → Makes tree.now.draft pair.now.new → old_of tree.now.draft pair.now.new ≡ Some pair.now.old }
 {
     match tree.alternate(pair.new) {
         Some(old) => old.same(pair.old),
         None => false,
     }
+}
+
+// Whether a made fiber was made for this current one.
+pub(crate) fn is_made_for(tree: &FiberTree<Fiber>, pair: &Pair) -> bool
+    requires { Makes tree.now.draft pair.now.new }
+    ensures { result ≡ true → old_of tree.now.draft pair.now.new ≡ Some pair.now.old }
+{
+    is_alternate(tree, pair)
 }
 
 // The place at which a made fiber and its alternate both stand for nodes.
