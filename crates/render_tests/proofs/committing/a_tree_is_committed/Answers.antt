@@ -11,5 +11,5 @@ commit-requires g c =
     let tree = c.in_ok-tree.tree in
     let beside = subst (λ (n : Node). IsBeside None n c.beside_none-beside.result) c.in_ok-tree.ensures.ends c.beside_none-beside.ensures in
     let prepares = c.in_ok-prepared.ensures.prepares None tree beside tt c.in_ok-tree.ensures.commit
-    (ap (placements c.in_ok-changes.changes.placed.items) (c.deref.ensures.value ∙ c.in_ok-all.ensures)) in
+    (ap (placements c.in_ok-changes.changes.placed.items) (c.deref-2.ensures.value ∙ c.in_ok-all.ensures)) in
     c.in_ok-prepared.ensures.ready None no_passive tree c.new-shown.ensures c.in_ok-tree.ensures.commit c.in_ok-tree.ensures.leaves prepares
